@@ -1,0 +1,6 @@
+pub mod Bits
+pub mod Combining
+pub mod Gathering
+pub mod Lowest
+pub mod Searching
+pub mod Members
