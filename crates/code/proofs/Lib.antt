@@ -4,3 +4,9 @@ pub mod Gathering
 pub mod Lowest
 pub mod Searching
 pub mod Members
+pub mod Systematic
+pub mod Units
+pub mod Refusing
+pub mod Opening
+pub mod Codewords
+pub mod Values

@@ -20,17 +20,18 @@ passed test start end None e f = λ i a b. elim (cases-eq start i) [ inl p ↦ s
 passed test start end (Some i) e f =
     (omega (arith, f .0), f .1, f .2, λ j a b. elim (cases-eq start j) [ inl p ↦ subst (λ x. test x ≡ false) p e | inr n ↦ f .3 j (omega arith) b ])
 
+-- one number more at the front
+one-more : (test : ℕ → Bool) (start end : ℕ) (rest : Option ℕ) (b : Bool) → start < end → test start ≡ b → First test (suc start) end rest
+    → First test start end (elim b [ true ↦ Some start | false ↦ rest ])
+one-more test start end rest true l e f = (omega arith, l, e, λ j a b. absurd (omega arith))
+one-more test start end rest false l e f = passed test start end rest e f
+
 pub least-first : (test : ℕ → Bool) (start count : ℕ) → First test start (start + count) (least test start count)
 least-first test start zero = λ i a b. absurd (omega arith)
-least-first test start (suc count) = step (test start) refl
-  where
-    end : suc start + count ≡ start + suc count
-    end = omega arith
-    step : (b : Bool) → test start ≡ b → First test start (start + suc count) (elim b [ true ↦ Some start | false ↦ least test (suc start) count ])
-    step true e = (omega arith, omega arith, e, λ j a b. absurd (omega arith))
-    step false e =
-        passed test start (start + suc count) (least test (suc start) count) e
-        (subst (λ x. First test (suc start) x (least test (suc start) count)) end (least-first test (suc start) count))
+least-first test start (suc count) =
+    let end : suc start + count ≡ start + suc count = omega arith in
+    one-more test start (start + suc count) (least test (suc start) count) (test start) (omega arith) refl
+    (subst (λ x. First test (suc start) x (least test (suc start) count)) end (least-first test (suc start) count))
 
 only : (test : ℕ → Bool) (start end : ℕ) (o p : Option ℕ) → First test start end o → First test start end p → o ≡ p
 only test start end None None f g = refl
