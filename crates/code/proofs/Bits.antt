@@ -41,9 +41,10 @@ pub pow-even : (j : ℕ) → 2 ^ suc j % 2 ≡ 0
 pow-even j = let e = pow-suc 2 j in omega arith
 
 pub pow-injective : (i j : ℕ) → 2 ^ i ≡ 2 ^ j → i ≡ j
-pow-injective i j e = elim (cases-order i j)
-    [ inl p ↦ p
-    | inr q ↦ elim q [ inl l ↦ (let k = pow-lt l in absurd (omega arith)) | inr l ↦ (let k = pow-lt l in absurd (omega arith)) ] ]
+pow-injective i j e = elim (cases-order i j) [
+  | inl p ↦ p
+  | inr q ↦ elim q [ inl l ↦ (let k = pow-lt l in absurd (omega arith)) | inr l ↦ (let k = pow-lt l in absurd (omega arith)) ]
+]
 
 pub bit-first : (w : ℕ) → bit w 0 ≡ w % 2
 bit-first w = ap (λ x. x % 2) (div-one w)
@@ -67,7 +68,7 @@ bits-same zero a b h k e = omega arith
 bits-same (suc n) a b h k e =
     let lo : a % 2 ≡ b % 2 = sym (bit-first a) ∙ (e 0 (omega arith) ∙ bit-first b) in
     let hi : a / 2 ≡ b / 2
-           = bits-same n (a / 2) (b / 2) (half-below n a h) (half-below n b k) (λ j l. sym (bit-next a j) ∙ (e (suc j) (omega arith) ∙ bit-next b j)) in
+    = bits-same n (a / 2) (b / 2) (half-below n a h) (half-below n b k) (λ j l. sym (bit-next a j) ∙ (e (suc j) (omega arith) ∙ bit-next b j)) in
     omega arith
 
 pub bit-pow-same : (j : ℕ) → bit (2 ^ j) j ≡ 1

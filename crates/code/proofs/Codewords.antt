@@ -26,7 +26,8 @@ module _ (cs ds : List ℕ) (w : Wellformed cs ds) where
   reads-back d h = one-codeword d h .0 .1
 
   pub one-data-word : OneDataWord cs ds
-  one-data-word v h z =
-      ( gather-lt ds v
-      , sym (one-codeword (gather ds v) (gather-lt ds v) .1 v (h, refl, z))
-      , λ d k e. sym (reads-back d k) ∙ ap (gather ds) e )
+  one-data-word v h z = (
+    gather-lt ds v,
+    sym (one-codeword (gather ds v) (gather-lt ds v) .1 v (h, refl, z)),
+    λ d k e. sym (reads-back d k) ∙ ap (gather ds) e,
+  )

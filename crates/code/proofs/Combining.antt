@@ -9,7 +9,7 @@ use lib.Bits.{bitXor, xor-zero-l, xor-zero-r, xor-self, xor-comm, xor-lt, xor-sh
 use lib.ListN.{length, getD}
 use lib.Pow.{pow-pos, pow-lt}
 use Rattle.std.specs.Iters.{counting}
-use Rattle.code.specs.Words.{pick, combine, weight, place}
+use Rattle.code.specs.Words.{pick, combine, unit, place}
 use Rattle.code.proofs.Bits.{odd-lt, half-below, half-xor, odd-xor, xor-cross, pow-half, pow-even}
 
 pub pick-xor : (x y v : ℕ) → x < 2 → y < 2 → pick (bitXor x y) v ≡ bitXor (pick x v) (pick y v)
@@ -68,16 +68,16 @@ combine-place cs (j ∷ js) d =
     one (suc b) = combine-pow cs j
 
 -- the units in their order give the word itself, moved up to the first of them
-pub combine-units : (i r s : ℕ) → s < 2 ^ r → combine (map weight (counting i r)) s ≡ s * 2 ^ i
+pub combine-units : (i r s : ℕ) → s < 2 ^ r → combine (map unit (counting i r)) s ≡ s * 2 ^ i
 combine-units i zero s h = let e : s ≡ 0 = omega arith in sym (ap (λ x. x * 2 ^ i) e ∙ zero-mul (2 ^ i))
 combine-units i (suc r) s h =
-    let more : combine (map weight (counting (i + 1) r)) (s / 2) ≡ s / 2 * 2 ^ suc i
-             = combine-units (i + 1) r (s / 2) (half-below r s h) ∙ ap (λ x. s / 2 * 2 ^ x) (add-one i) in
+    let more : combine (map unit (counting (i + 1) r)) (s / 2) ≡ s / 2 * 2 ^ suc i
+    = combine-units (i + 1) r (s / 2) (half-below r s h) ∙ ap (λ x. s / 2 * 2 ^ x) (add-one i) in
     let below : pick (s % 2) (2 ^ i) < 2 ^ suc i
-              = pick-below (s % 2) (2 ^ i) (2 ^ suc i) (pow-pos (suc i)) (pow-lt (lt-suc-self i)) in
+    = pick-below (s % 2) (2 ^ i) (2 ^ suc i) (pow-pos (suc i)) (pow-lt (lt-suc-self i)) in
     let sum : bitXor (pick (s % 2) (2 ^ i)) (s / 2 * 2 ^ suc i) ≡ s / 2 * 2 ^ suc i + pick (s % 2) (2 ^ i)
-            = xor-comm (pick (s % 2) (2 ^ i)) (s / 2 * 2 ^ suc i) ∙ xor-shifted (s / 2) (suc i) (pick (s % 2) (2 ^ i)) below in
+    = xor-comm (pick (s % 2) (2 ^ i)) (s / 2 * 2 ^ suc i) ∙ xor-shifted (s / 2) (suc i) (pick (s % 2) (2 ^ i)) below in
     let high : s / 2 * 2 ^ suc i ≡ s / 2 * 2 * 2 ^ i = ap (λ x. s / 2 * x) (pow-succ' 2 i) ∙ sym (mul-assoc (s / 2) 2 (2 ^ i)) in
     let whole : s / 2 * 2 * 2 ^ i + s % 2 * 2 ^ i ≡ s * 2 ^ i
-              = sym (add-mul (s / 2 * 2) (s % 2) (2 ^ i)) ∙ ap (λ x. x * 2 ^ i) (div-add-mod' s 2) in
+    = sym (add-mul (s / 2 * 2) (s % 2) (2 ^ i)) ∙ ap (λ x. x * 2 ^ i) (div-add-mod' s 2) in
     ap (bitXor (pick (s % 2) (2 ^ i))) more ∙ (sum ∙ (ap₂ (λ x y. x + y) high (pick-mul (s % 2) (2 ^ i) (odd-lt s)) ∙ whole))

@@ -32,7 +32,7 @@ pub gather-more : (js : List ℕ) (i w bits : ℕ) → 0 < i → i ≤ length js
 gather-more js i w bits p l e =
     let back : i - 1 + 1 ≡ i = omega arith in
     let step : gather (drop (i - 1) js) w ≡ gather (drop (i - 1 + 1) js) w * 2 + bit w (getD js (i - 1) 0)
-             = at-drop-more (λ xs. gather xs w) js (i - 1) 0 (omega arith) in
+    = at-drop-more (λ xs. gather xs w) js (i - 1) 0 (omega arith) in
     sym (step ∙ ap (λ x. x * 2 + bit w (getD js (i - 1) 0)) (ap (λ x. gather (drop x js) w) back ∙ sym e))
 
 pub gather-fits : (js : List ℕ) (i w bound : ℕ) → length js ≤ bound → gather (drop i js) w < 2 ^ bound

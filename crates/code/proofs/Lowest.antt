@@ -22,21 +22,23 @@ split-at : (k w : ℕ) → 0 < w → w < 2 ^ k → (q : ℕ) × Split w (trailin
 unfolding trailingZeros
 split-at zero w p h = absurd (omega arith)
 split-at (suc k) w p h =
-    elim (two-cases (w % 2) (odd-lt w))
-    [ inl z ↦
-        (let half : 0 < w / 2 = omega arith in
-         let j = trailingZeros k (w / 2) in
-         let more = split-at k (w / 2) half (half-below k w h) in
-         let here : trailingZeros (suc k) w ≡ suc j = ap (λ x. under x j) z in
-         let twice : w ≡ w / 2 * 2 = omega arith in
-         let moved = mul-assoc (more .0 * 2 + 1) (2 ^ j) 2 in
-         ( more .0
-         , twice ∙ (ap (λ x. x * 2) (more .1) ∙ (moved ∙ (ap (λ x. (more .0 * 2 + 1) * x) (sym (pow-suc 2 j)) ∙ ap (λ x. (more .0 * 2 + 1) * 2 ^ x) (sym here))))))
-    | inr o ↦
-        (let here : trailingZeros (suc k) w ≡ 0 = ap (λ x. under x (trailingZeros k (w / 2))) o in
-         let m = mul-one (w / 2 * 2 + 1) in
-         let whole : w ≡ (w / 2 * 2 + 1) * 2 ^ 0 = omega arith in
-         (w / 2, whole ∙ ap (λ x. (w / 2 * 2 + 1) * 2 ^ x) (sym here))) ]
+    elim (two-cases (w % 2) (odd-lt w)) [
+      | inl z ↦
+          (let half : 0 < w / 2 = omega arith in
+          let j = trailingZeros k (w / 2) in
+          let more = split-at k (w / 2) half (half-below k w h) in
+          let here : trailingZeros (suc k) w ≡ suc j = ap (λ x. under x j) z in
+          let twice : w ≡ w / 2 * 2 = omega arith in
+          let moved = mul-assoc (more .0 * 2 + 1) (2 ^ j) 2 in (
+            more .0,
+            twice ∙ (ap (λ x. x * 2) (more .1) ∙ (moved ∙ (ap (λ x. (more .0 * 2 + 1) * x) (sym (pow-suc 2 j)) ∙ ap (λ x. (more .0 * 2 + 1) * 2 ^ x) (sym here)))),
+          ))
+      | inr o ↦
+          (let here : trailingZeros (suc k) w ≡ 0 = ap (λ x. under x (trailingZeros k (w / 2))) o in
+          let m = mul-one (w / 2 * 2 + 1) in
+          let whole : w ≡ (w / 2 * 2 + 1) * 2 ^ 0 = omega arith in
+          (w / 2, whole ∙ ap (λ x. (w / 2 * 2 + 1) * 2 ^ x) (sym here)))
+    ]
 
 and-odd : (q : ℕ) → bitAnd (q * 2 + 1) (q * 2) ≡ q * 2
 and-odd q =
@@ -86,10 +88,10 @@ take-lowest vs k rest sum v t p h inv e =
     let j = trailingZeros k rest in
     let left = s .0 * 2 * 2 ^ j in
     let parts : combine vs rest ≡ bitXor v (combine vs (bitAnd rest (rest - 1)))
-              = ap (combine vs) (rejoined (s .0) j rest (s .1))
-              ∙ (combine-xor vs left (2 ^ j)
-              ∙ (xor-comm (combine vs left) (combine vs (2 ^ j))
-              ∙ ap₂ (λ x y. bitXor x (combine vs y)) (combine-pow vs j ∙ sym e) (sym (cleared (s .0) j rest (s .1))))) in
+    = ap (combine vs) (rejoined (s .0) j rest (s .1))
+    ∙ (combine-xor vs left (2 ^ j)
+    ∙ (xor-comm (combine vs left) (combine vs (2 ^ j))
+    ∙ ap₂ (λ x y. bitXor x (combine vs y)) (combine-pow vs j ∙ sym e) (sym (cleared (s .0) j rest (s .1))))) in
     xor-assoc sum v (combine vs (bitAnd rest (rest - 1))) ∙ (ap (bitXor sum) (sym parts) ∙ inv)
 
 -- the end of that loop

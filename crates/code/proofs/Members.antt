@@ -18,9 +18,10 @@ among-at (x ∷ xs) (suc i) h = or-right (eqb x (getD xs i 0)) (among xs (getD x
 
 pub place-of : (js : List ℕ) (j : ℕ) → among js j ≡ true → (i : ℕ) × (i < length js) × (getD js i 0 ≡ j)
 place-of [] j e = absurd (false≢true e)
-place-of (x ∷ xs) j e = elim (or-cases (eqb x j) (among xs j) e)
-    [ inl h ↦ (0, omega arith, eqb-true x j h)
-    | inr h ↦ (let p = place-of xs j h in (suc (p .0), omega (arith, p .1), p .2)) ]
+place-of (x ∷ xs) j e = elim (or-cases (eqb x j) (among xs j) e) [
+  | inl h ↦ (0, omega arith, eqb-true x j h)
+  | inr h ↦ (let p = place-of xs j h in (suc (p .0), omega (arith, p .1), p .2))
+]
 
 pub beside : (js : List ℕ) (j : ℕ) → among js j ≡ false → Beside js j
 beside js j e i h p = both-ways (among js j) e (subst (λ x. among js x ≡ true) p (among-at js i h))
@@ -39,6 +40,7 @@ Distinct (i ∷ is) = (among is i ≡ false) × Distinct is
 
 pub distinct-from : (js : List ℕ) → ((i j : ℕ) → i < j → j < length js → getD js i 0 ≡ getD js j 0 → ⊥) → Distinct js
 distinct-from [] f = tt
-distinct-from (x ∷ xs) f =
-    ( not-among xs x (λ i h e. f 0 (suc i) (omega arith) (omega arith) (sym e))
-    , distinct-from xs (λ i j l h. f (suc i) (suc j) (omega arith) (omega arith)) )
+distinct-from (x ∷ xs) f = (
+  not-among xs x (λ i h e. f 0 (suc i) (omega arith) (omega arith) (sym e)),
+  distinct-from xs (λ i j l h. f (suc i) (suc j) (omega arith) (omega arith)),
+)

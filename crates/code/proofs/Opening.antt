@@ -11,12 +11,13 @@ use Rattle.code.proofs.Refusing.{rising-from}
 use Rattle.code.proofs.Units.{Located, units-from}
 
 pub wellformed-from : (cs ds us : List ℕ) → Shape (length cs) (length ds) → GoodColumns cs ds (length ds) → Narrow cs ds → Located cs ds us → Covered cs ds us → Wellformed cs ds
-wellformed-from cs ds us shape good narrow l covered = record
-    { shape = shape
-    ; inside = λ i h. good i h .0
-    ; rising = rising-from (length cs) ds good
-    ; narrow = narrow
-    ; units = units-from cs ds us l covered }
+wellformed-from cs ds us shape good narrow l covered = record {
+  shape = shape;
+  inside = λ i h. good i h .0;
+  rising = rising-from (length cs) ds good;
+  narrow = narrow;
+  units = units-from cs ds us l covered;
+}
 
 -- the ghost fields of a code but for the sizes of its arrays, in their order
 abbrev pub Kept : List ℕ → List ℕ → List ℕ → ℕ → ℕ → Type 0
@@ -40,13 +41,28 @@ below-two P p q (suc zero) h = q
 below-two P p q (suc (suc i)) h = absurd (omega arith)
 
 pub fresh : Kept (1 ∷ (1 ∷ [])) (0 ∷ []) (1 ∷ []) 2 1
-fresh =
-    ( omega arith
-    , ( below-one (λ i. getD (0 ∷ []) i 0 < 2) (lit< tt)
-    , ( (λ i j l h. absurd (omega arith))
-    , ( below-two (λ j. getD (1 ∷ (1 ∷ [])) j 0 < 2) (lit< tt) (lit< tt)
-    , ( below-one (λ i. getD (1 ∷ []) i 0 < 2) (lit< tt)
-    , ( below-one (λ i. Beside (0 ∷ []) (getD (1 ∷ []) i 0)) (below-one (λ i. getD (0 ∷ []) i 0 ≡ 1 → ⊥) (λ e. omega arith))
-    , ( below-one (λ i. getD (1 ∷ (1 ∷ [])) (getD (1 ∷ []) i 0) 0 ≡ 2 ^ i) refl
-    , ( below-two (λ j. Beside (0 ∷ []) j → Beside (1 ∷ []) j → ⊥) (λ a b. a 0 (lit< tt) refl) (λ a b. b 0 (lit< tt) refl)
-    , tt ))))))) )
+fresh = (
+  omega arith,
+  (
+    below-one (λ i. getD (0 ∷ []) i 0 < 2) (lit< tt),
+    (
+      (λ i j l h. absurd (omega arith)),
+      (
+        below-two (λ j. getD (1 ∷ (1 ∷ [])) j 0 < 2) (lit< tt) (lit< tt),
+        (
+          below-one (λ i. getD (1 ∷ []) i 0 < 2) (lit< tt),
+          (
+            below-one (λ i. Beside (0 ∷ []) (getD (1 ∷ []) i 0)) (below-one (λ i. getD (0 ∷ []) i 0 ≡ 1 → ⊥) (λ e. omega arith)),
+            (
+              below-one (λ i. getD (1 ∷ (1 ∷ [])) (getD (1 ∷ []) i 0) 0 ≡ 2 ^ i) refl,
+              (
+                below-two (λ j. Beside (0 ∷ []) j → Beside (1 ∷ []) j → ⊥) (λ a b. a 0 (lit< tt) refl) (λ a b. b 0 (lit< tt) refl),
+                tt,
+              ),
+            ),
+          ),
+        ),
+      ),
+    ),
+  ),
+)

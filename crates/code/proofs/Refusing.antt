@@ -24,9 +24,10 @@ pub rising-from : (n : ℕ) (ds : List ℕ) → ((i : ℕ) → i < length ds →
 rising-from n ds good i zero l h = absurd (omega arith)
 rising-from n ds good i (suc j) l h =
     let step = good (suc j) h .1 in
-    elim (cases-order i j)
-    [ inl e ↦ (let s : getD ds i 0 ≡ getD ds j 0 = ap (λ x. getD ds x 0) e in omega arith)
-    | inr o ↦ elim o [ inl k ↦ (let s = rising-from n ds good i j k (omega arith) in omega arith) | inr k ↦ absurd (omega arith) ] ]
+    elim (cases-order i j) [
+      | inl e ↦ (let s : getD ds i 0 ≡ getD ds j 0 = ap (λ x. getD ds x 0) e in omega arith)
+      | inr o ↦ elim o [ inl k ↦ (let s = rising-from n ds good i j k (omega arith) in omega arith) | inr k ↦ absurd (omega arith) ]
+    ]
 
 good-from : (n : ℕ) (ds : List ℕ) → ((i : ℕ) → i < length ds → getD ds i 0 < n) → Rising ds → (i : ℕ) → i < length ds → GoodColumn n ds i
 good-from n ds inside rising zero h = (inside 0 h, omega arith)
@@ -53,20 +54,22 @@ module _ (cs ds : List ℕ) where
   counted a b = and-from (leb least-columns (length cs)) (leb (length cs) most-columns) (le-leb least-columns (length cs) a) (le-leb (length cs) most-columns b)
 
   shaped : Shape (length cs) (length ds) → (count-fits ≡ true) × (data-fits ≡ true)
-  shaped s =
-      ( counted (s .0) (s .1)
-      , and-from (leb 1 (length ds)) (ltb (length ds) (length cs) && leb (rows cs ds) most-checks) (le-leb 1 (length ds) (s .2))
-        (and-from (ltb (length ds) (length cs)) (leb (rows cs ds) most-checks) (lt-ltb (length ds) (length cs) (s .3)) (le-leb (rows cs ds) most-checks (s .4))) )
+  shaped s = (
+    counted (s .0) (s .1),
+    and-from (leb 1 (length ds)) (ltb (length ds) (length cs) && leb (rows cs ds) most-checks) (le-leb 1 (length ds) (s .2))
+        (and-from (ltb (length ds) (length cs)) (leb (rows cs ds) most-checks) (lt-ltb (length ds) (length cs) (s .3)) (le-leb (rows cs ds) most-checks (s .4))),
+  )
 
   good-passes : (i : ℕ) → GoodColumn (length cs) ds i → bad-column (length cs) ds i ≡ false
   good-passes i g = not-from-true _ (and-from (ltb (getD ds i 0) (length cs)) (leb (floor ds i) (getD ds i 0)) (lt-ltb (getD ds i 0) (length cs) (g .0)) (le-leb (floor ds i) (getD ds i 0) (g .1)))
 
   bad-fails : (i : ℕ) → (GoodColumn (length cs) ds i → ⊥) → bad-column (length cs) ds i ≡ true
   bad-fails i f = let test = ltb (getD ds i 0) (length cs) && leb (floor ds i) (getD ds i 0) in
-      not-from-false test (elim (cases-bool test)
-          [ inl t ↦ (let p = and-parts (ltb (getD ds i 0) (length cs)) (leb (floor ds i) (getD ds i 0)) t in
-                     absurd (f (ltb-true (getD ds i 0) (length cs) (p .0), leb-true (floor ds i) (getD ds i 0) (p .1))))
-          | inr e ↦ e ])
+      not-from-false test (elim (cases-bool test) [
+        | inl t ↦ (let p = and-parts (ltb (getD ds i 0) (length cs)) (leb (floor ds i) (getD ds i 0)) t in
+            absurd (f (ltb-true (getD ds i 0) (length cs) (p .0), leb-true (floor ds i) (getD ds i 0) (p .1))))
+        | inr e ↦ e
+      ])
 
   none-bad : GoodColumns cs ds (length ds) → bad-place ≡ None
   none-bad g = first-least (bad-column (length cs) ds) (length ds) None (λ i a b. good-passes i (g i b))

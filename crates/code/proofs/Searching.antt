@@ -37,9 +37,10 @@ only : (test : ℕ → Bool) (start end : ℕ) (o p : Option ℕ) → First test
 only test start end None None f g = refl
 only test start end None (Some i) f g = absurd (both-ways (test i) (f i (g .0) (g .1)) (g .2))
 only test start end (Some i) None f g = absurd (both-ways (test i) (g i (f .0) (f .1)) (f .2))
-only test start end (Some i) (Some j) f g = elim (cases-order i j)
-    [ inl e ↦ ap Some e
-    | inr o ↦ elim o [ inl l ↦ absurd (both-ways (test i) (g .3 i (f .0) l) (f .2)) | inr l ↦ absurd (both-ways (test j) (f .3 j (g .0) l) (g .2)) ] ]
+only test start end (Some i) (Some j) f g = elim (cases-order i j) [
+  | inl e ↦ ap Some e
+  | inr o ↦ elim o [ inl l ↦ absurd (both-ways (test i) (g .3 i (f .0) l) (f .2)) | inr l ↦ absurd (both-ways (test j) (f .3 j (g .0) l) (g .2)) ]
+]
 
 -- whatever is first is what the search finds
 pub first-least : (test : ℕ → Bool) (count : ℕ) (o : Option ℕ) → First test 0 count o → least test 0 count ≡ o

@@ -11,7 +11,7 @@ use lib.Dec.{eqb}
 use lib.ListN.{length, getD}
 use Rattle.std.specs.Iters.{counting}
 use Rattle.std.proofs.shelf.Tests.{cases-bool, both-ways, eqb-true, eqb-false, eq-eqb, or-cases, or-parts, or-left, or-right}
-use Rattle.code.specs.Words.{bit, pick, combine, gather, weight, place}
+use Rattle.code.specs.Words.{bit, pick, combine, gather, unit, place}
 use Rattle.code.specs.Search.{among}
 use Rattle.code.specs.Codes.{syndrome, Encodes, Inside}
 use Rattle.code.proofs.Bits.{odd-lt, half-below, bit-lt, bit-xor, bit-none, bit-pow-same, bit-pow-other, bits-same}
@@ -46,11 +46,12 @@ place-gather (i ∷ is) w j u e =
     let hi : (gather is w * 2 + bit w i) / 2 ≡ gather is w = omega arith in
     ap₂ (λ x y. bit (bitXor (pick x (2 ^ i)) (place is y)) j) lo hi
     ∙ (bit-xor (pick (bit w i) (2 ^ i)) (place is (gather is w)) j
-    ∙ elim (or-cases (eqb i j) (among is j) e)
-      [ inl h ↦ subst (λ x. bitXor (bit (pick (bit w i) (2 ^ i)) x) (bit (place is (gather is w)) x) ≡ bit w x) (eqb-true i j h)
-                (ap₂ bitXor (bit-pick-same (bit w i) i k) (place-beside is (gather is w) i (u .0)) ∙ xor-zero-r (bit w i))
+    ∙ elim (or-cases (eqb i j) (among is j) e) [
+      | inl h ↦ subst (λ x. bitXor (bit (pick (bit w i) (2 ^ i)) x) (bit (place is (gather is w)) x) ≡ bit w x) (eqb-true i j h)
+          (ap₂ bitXor (bit-pick-same (bit w i) i k) (place-beside is (gather is w) i (u .0)) ∙ xor-zero-r (bit w i))
       | inr h ↦ ap₂ bitXor (bit-pick-other (bit w i) i j (λ p. both-ways (among is i) (u .0) (subst (λ x. among is x ≡ true) (sym p) h)))
-                (place-gather is w j (u .1) h) ])
+          (place-gather is w j (u .1) h)
+    ])
 
 gather-pick-other : (js : List ℕ) (b i : ℕ) → among js i ≡ false → gather js (pick b (2 ^ i)) ≡ 0
 gather-pick-other [] b i e = refl
@@ -63,11 +64,11 @@ gather-place : (js : List ℕ) (d : ℕ) → Distinct js → d < 2 ^ length js �
 gather-place [] d u h = omega arith
 gather-place (j ∷ js) d u h =
     let hi : gather js (place (j ∷ js) d) ≡ d / 2
-           = gather-xor js (pick (d % 2) (2 ^ j)) (place js (d / 2))
-             ∙ ap₂ bitXor (gather-pick-other js (d % 2) j (u .0)) (gather-place js (d / 2) (u .1) (half-below (length js) d h)) in
+    = gather-xor js (pick (d % 2) (2 ^ j)) (place js (d / 2))
+    ∙ ap₂ bitXor (gather-pick-other js (d % 2) j (u .0)) (gather-place js (d / 2) (u .1) (half-below (length js) d h)) in
     let lo : bit (place (j ∷ js) d) j ≡ d % 2
-           = bit-xor (pick (d % 2) (2 ^ j)) (place js (d / 2)) j
-             ∙ (ap₂ bitXor (bit-pick-same (d % 2) j (odd-lt d)) (place-beside js (d / 2) j (u .0)) ∙ xor-zero-r (d % 2)) in
+    = bit-xor (pick (d % 2) (2 ^ j)) (place js (d / 2)) j
+    ∙ (ap₂ bitXor (bit-pick-same (d % 2) j (odd-lt d)) (place-beside js (d / 2) j (u .0)) ∙ xor-zero-r (d % 2)) in
     omega arith
 
 gather-apart : (ds us : List ℕ) (s : ℕ) → ((j : ℕ) → among ds j ≡ true → among us j ≡ false) → gather ds (place us s) ≡ 0
@@ -86,7 +87,7 @@ pub record Systematic (cs ds us : List ℕ) : Type 0 where
   -- a column is a data column or a check column, and not both
   pub apart : (j : ℕ) → among ds j ≡ true → among us j ≡ false
   pub cover : (j : ℕ) → j < length cs → among ds j ≡ false → among us j ≡ true
-  pub values : map (λ j. getD cs j 0) us ≡ map weight (counting 0 (length us))
+  pub values : map (λ j. getD cs j 0) us ≡ map unit (counting 0 (length us))
   pub narrow : (j : ℕ) → j < length cs → getD cs j 0 < 2 ^ length us
 
 -- the code word by its construction
@@ -105,17 +106,19 @@ module _ (cs ds us : List ℕ) (sys : Systematic cs ds us) where
   word-parts : (w : ℕ) → w < 2 ^ length cs → w ≡ bitXor (place ds (gather ds w)) (place us (gather us w))
   word-parts w h = bits-same (length cs) w (bitXor (place ds (gather ds w)) (place us (gather us w))) h
       (xor-lt (length cs) (place ds (gather ds w)) (place us (gather us w)) (place-lt (length cs) ds (gather ds w) (sys .data-inside)) (place-lt (length cs) us (gather us w) (sys .checks-inside)))
-      (λ j k. sym (bit-xor (place ds (gather ds w)) (place us (gather us w)) j ∙ elim (cases-bool (among ds j))
-          [ inl e ↦ (ap₂ bitXor (place-gather ds w j (sys .data-distinct) e) (place-beside us (gather us w) j (sys .apart j e)) ∙ xor-zero-r (bit w j))
-          | inr e ↦ ap₂ bitXor (place-beside ds (gather ds w) j e) (place-gather us w j (sys .check-distinct) (sys .cover j k e)) ]))
+      (λ j k. sym (bit-xor (place ds (gather ds w)) (place us (gather us w)) j ∙ elim (cases-bool (among ds j)) [
+        | inl e ↦ (ap₂ bitXor (place-gather ds w j (sys .data-distinct) e) (place-beside us (gather us w) j (sys .apart j e)) ∙ xor-zero-r (bit w j))
+        | inr e ↦ ap₂ bitXor (place-beside ds (gather ds w) j e) (place-gather us w j (sys .check-distinct) (sys .cover j k e))
+      ]))
 
   pub constructed-encodes : (d : ℕ) → d < 2 ^ length ds → Encodes cs ds d (constructed cs ds us d)
   constructed-encodes d h =
       let p : ℕ = place ds d in
-      let s : ℕ = syndrome cs p in
-      ( xor-lt (length cs) p (place us s) (place-lt (length cs) ds d (sys .data-inside)) (place-lt (length cs) us s (sys .checks-inside))
-      , gather-xor ds p (place us s) ∙ (ap₂ bitXor (gather-place ds d (sys .data-distinct) h) (gather-apart ds us s (sys .apart)) ∙ xor-zero-r d)
-      , combine-xor cs p (place us s) ∙ (ap (bitXor s) (syndrome-checks s (syndrome-lt p)) ∙ xor-self s) )
+      let s : ℕ = syndrome cs p in (
+        xor-lt (length cs) p (place us s) (place-lt (length cs) ds d (sys .data-inside)) (place-lt (length cs) us s (sys .checks-inside)),
+        gather-xor ds p (place us s) ∙ (ap₂ bitXor (gather-place ds d (sys .data-distinct) h) (gather-apart ds us s (sys .apart)) ∙ xor-zero-r d),
+        combine-xor cs p (place us s) ∙ (ap (bitXor s) (syndrome-checks s (syndrome-lt p)) ∙ xor-self s),
+      )
 
   -- no other word has these data bits and syndrome zero
   pub encodes-once : (d w : ℕ) → Encodes cs ds d w → w ≡ constructed cs ds us d
@@ -124,7 +127,7 @@ module _ (cs ds us : List ℕ) (sys : Systematic cs ds us) where
       let s : ℕ = syndrome cs (place ds d) in
       let parts : w ≡ bitXor (place ds d) (place us g) = word-parts w (e .0) ∙ ap (λ x. bitXor (place ds x) (place us g)) (e .1) in
       let none : bitXor s g ≡ 0
-               = sym (ap (combine cs) parts ∙ (combine-xor cs (place ds d) (place us g) ∙ ap (bitXor s) (syndrome-checks g (gather-lt us w)))) ∙ e .2 in
+      = sym (ap (combine cs) parts ∙ (combine-xor cs (place ds d) (place us g) ∙ ap (bitXor s) (syndrome-checks g (gather-lt us w)))) ∙ e .2 in
       parts ∙ ap (λ x. bitXor (place ds d) (place us x)) (xor-same s g none)
     where
       xor-same : (a b : ℕ) → bitXor a b ≡ 0 → b ≡ a

@@ -14,7 +14,7 @@ use Rattle.std.specs.declared.option.Option.the-variants.{Some, None}
 use Rattle.std.proofs.shelf.Tests.{cases-bool, both-ways, true≢false, eqb-true, eq-eqb, not-true, not-false, not-from-true, not-from-false, and-parts, and-from, or-cases, or-left, or-right}
 use Rattle.std.proofs.shelf.Lists.{length-map, length-take-le, getD-take, getD-map, ext-getD}
 use Rattle.std.proofs.shelf.Counted.{length-map-counting, getD-map-counting}
-use Rattle.code.specs.Words.{weight}
+use Rattle.code.specs.Words.{unit}
 use Rattle.code.specs.Search.{least, isNone, among}
 use Rattle.code.specs.Codes.{rows, Beside, Check, Units, Row, Covered, Inside, Rising, Narrow, Wellformed, holds, check-column, check-columns}
 use Rattle.code.specs.Opening.{bare-row, spare-column, units}
@@ -40,15 +40,16 @@ module _ (cs ds : List ℕ) where
   -- ---- a located list that leaves no check column out is the relation
 
   pub units-from : (us : List ℕ) → Located cs ds us → Covered cs ds us → Units cs ds
-  units-from us l covered = record
-      { some-unit = λ j c. let p = row j c in (p .0, subst (λ x. p .0 < x) (l .0) (p .1), ap (λ x. getD cs x 0) (sym (p .2)) ∙ l .1 (p .0) (p .1) .1)
-      ; some-check = λ i h. let k : i < length us = omega (arith, l .0) in (getD us i 0, l .1 i k .0, l .1 i k .1)
-      ; once = λ i j a b e.
-          let p = row i a in
-          let q = row j b in
-          let same : p .0 ≡ q .0 = pow-injective (p .0) (q .0)
-                (sym (l .1 (p .0) (p .1) .1) ∙ (ap (λ x. getD cs x 0) (p .2) ∙ (e ∙ (sym (ap (λ x. getD cs x 0) (q .2)) ∙ l .1 (q .0) (q .1) .1)))) in
-          sym (p .2) ∙ (ap (λ x. getD us x 0) same ∙ q .2) }
+  units-from us l covered = record {
+    some-unit = λ j c. let p = row j c in (p .0, subst (λ x. p .0 < x) (l .0) (p .1), ap (λ x. getD cs x 0) (sym (p .2)) ∙ l .1 (p .0) (p .1) .1);
+    some-check = λ i h. let k : i < length us = omega (arith, l .0) in (getD us i 0, l .1 i k .0, l .1 i k .1);
+    once = λ i j a b e.
+        let p = row i a in
+        let q = row j b in
+        let same : p .0 ≡ q .0 = pow-injective (p .0) (q .0)
+        (sym (l .1 (p .0) (p .1) .1) ∙ (ap (λ x. getD cs x 0) (p .2) ∙ (e ∙ (sym (ap (λ x. getD cs x 0) (q .2)) ∙ l .1 (q .0) (q .1) .1)))) in
+        sym (p .2) ∙ (ap (λ x. getD us x 0) same ∙ q .2);
+  }
     where
       row : (j : ℕ) → Check cs ds j → (i : ℕ) × (i < length us) × (getD us i 0 ≡ j)
       row j c = place-of us j (is-among us j (covered j (c .0) (c .1)))
@@ -64,7 +65,7 @@ module _ (cs ds : List ℕ) where
   pub located-same : (us vs : List ℕ) → Units cs ds → Located cs ds us → Located cs ds vs → us ≡ vs
   located-same us vs w l m = ext-getD 0 us vs (l .0 ∙ sym (m .0))
       (λ i h. let k : i < length vs = omega (arith, l .0, m .0) in
-          w .once (getD us i 0) (getD vs i 0) (l .1 i h .0) (m .1 i k .0) (l .1 i h .1 ∙ sym (m .1 i k .1)))
+      w .once (getD us i 0) (getD vs i 0) (l .1 i h .0) (m .1 i k .0) (l .1 i h .1 ∙ sym (m .1 i k .1)))
 
   -- ---- what is computed
 
@@ -81,9 +82,11 @@ module _ (cs ds : List ℕ) where
   -- where no row is bare, the computed list is located
   pub computed-located : ((i : ℕ) → i < rows cs ds → bare-row cs ds i ≡ false) → Located cs ds (check-columns cs ds)
   computed-located f =
-      let many : length (check-columns cs ds) ≡ rows cs ds = length-map-counting (λ t. valueOr (check-column cs ds t) 0) 0 (rows cs ds) in
-      (many, λ i h. let k : i < rows cs ds = omega arith in
-          subst (RowAt cs ds i) (sym (check-at i k)) (at i (check-column cs ds i) (f i k) (least-first (holds cs ds (2 ^ i)) 0 (length cs))))
+      let many : length (check-columns cs ds) ≡ rows cs ds = length-map-counting (λ t. valueOr (check-column cs ds t) 0) 0 (rows cs ds) in (
+        many,
+        λ i h. let k : i < rows cs ds = omega arith in
+            subst (RowAt cs ds i) (sym (check-at i k)) (at i (check-column cs ds i) (f i k) (least-first (holds cs ds (2 ^ i)) 0 (length cs))),
+      )
     where
       at : (i : ℕ) (o : Option ℕ) → isNone o ≡ false → First (holds cs ds (2 ^ i)) 0 (0 + length cs) o → RowAt cs ds i (valueOr o 0)
       at i None e p = absurd (true≢false e)
@@ -102,37 +105,41 @@ module _ (cs ds : List ℕ) where
   units-computed w =
       and-from (isNone (least (bare-row cs ds) 0 (rows cs ds))) (isNone (least (spare-column cs ds) 0 (length cs)))
       (fails-none (bare-row cs ds) (rows cs ds) (not-bare w))
-      (fails-none (spare-column cs ds) (length cs) (λ j h. not-from-true (among ds j || among (check-columns cs ds) j) (elim (cases-bool (among ds j))
-          [ inl e ↦ or-left (among ds j) (among (check-columns cs ds) j) e
-          | inr e ↦ or-right (among ds j) (among (check-columns cs ds) j) (is-among (check-columns cs ds) j
-                (covered-from (check-columns cs ds) w (computed-located (not-bare w)) j h (beside ds j e))) ])))
+      (fails-none (spare-column cs ds) (length cs) (λ j h. not-from-true (among ds j || among (check-columns cs ds) j) (elim (cases-bool (among ds j)) [
+        | inl e ↦ or-left (among ds j) (among (check-columns cs ds) j) e
+        | inr e ↦ or-right (among ds j) (among (check-columns cs ds) j) (is-among (check-columns cs ds) j
+            (covered-from (check-columns cs ds) w (computed-located (not-bare w)) j h (beside ds j e)))
+      ])))
 
   pub computed-units : units cs ds ≡ true → Units cs ds
   computed-units e =
       let p = and-parts (isNone (least (bare-row cs ds) 0 (rows cs ds))) (isNone (least (spare-column cs ds) 0 (length cs))) e in
       units-from (check-columns cs ds) (computed-located (none-fails (bare-row cs ds) (rows cs ds) (p .0)))
-      (λ j h a b. elim (or-cases (among ds j) (among (check-columns cs ds) j) (not-false _ (none-fails (spare-column cs ds) (length cs) (p .1) j h)))
-          [ inl t ↦ both-ways (among ds j) (not-among ds j a) t
-          | inr t ↦ both-ways (among (check-columns cs ds) j) (not-among (check-columns cs ds) j b) t ])
+      (λ j h a b. elim (or-cases (among ds j) (among (check-columns cs ds) j) (not-false _ (none-fails (spare-column cs ds) (length cs) (p .1) j h))) [
+        | inl t ↦ both-ways (among ds j) (not-among ds j a) t
+        | inr t ↦ both-ways (among (check-columns cs ds) j) (not-among (check-columns cs ds) j b) t
+      ])
 
   -- ---- a well-formed code is systematic
 
   pub systematic : Wellformed cs ds → Systematic cs ds (check-columns cs ds)
-  systematic w = record
-      { data-distinct = distinct-from ds (λ i j a b e. let k = w .rising i j a b in omega arith)
-      ; check-distinct = distinct-from us (λ i j a b e.
-            let p : i ≡ j = pow-injective i j (sym (l .1 i (omega arith) .1) ∙ (ap (λ x. getD cs x 0) e ∙ l .1 j b .1)) in omega arith)
-      ; data-inside = w .inside
-      ; checks-inside = λ i h. l .1 i h .0 .0
-      ; apart = λ j e. not-among us j (λ i h p. l .1 i h .0 .1 (place-of ds j e .0) (place-of ds j e .1) (place-of ds j e .2 ∙ sym p))
-      ; cover = λ j h e. is-among us j (covered-from us (w .units) l j h (beside ds j e))
-      ; values = ext-getD 0 (map (λ j. getD cs j 0) us) (map weight (counting 0 (length us)))
-            (length-map us (λ j. getD cs j 0) ∙ sym (length-map-counting weight 0 (length us)))
-            (λ i h. let k : i < length us = subst (λ x. i < x) (length-map us (λ j. getD cs j 0)) h in
-                getD-map (λ j. getD cs j 0) us i 0 0 k ∙ (l .1 i k .1 ∙ sym (getD-map-counting weight 0 (length us) i i 0 k (omega arith))))
-      ; narrow = λ j h. subst (λ x. getD cs j 0 < 2 ^ x) (sym (l .0)) (w .narrow j h) }
+  systematic w = record {
+    data-distinct = distinct-from ds (λ i j a b e. let k = w .rising i j a b in omega arith);
+    check-distinct = distinct-from us (λ i j a b e.
+        let p : i ≡ j = pow-injective i j (sym (l .1 i (omega arith) .1) ∙ (ap (λ x. getD cs x 0) e ∙ l .1 j b .1)) in omega arith);
+    data-inside = w .inside;
+    checks-inside = λ i h. l .1 i h .0 .0;
+    apart = λ j e. not-among us j (λ i h p. l .1 i h .0 .1 (place-of ds j e .0) (place-of ds j e .1) (place-of ds j e .2 ∙ sym p));
+    cover = λ j h e. is-among us j (covered-from us (w .units) l j h (beside ds j e));
+    values = ext-getD 0 (map (λ j. getD cs j 0) us) (map unit (counting 0 (length us)))
+        (length-map us (λ j. getD cs j 0) ∙ sym (length-map-counting unit 0 (length us)))
+        (λ i h. let k : i < length us = subst (λ x. i < x) (length-map us (λ j. getD cs j 0)) h in
+        getD-map (λ j. getD cs j 0) us i 0 0 k ∙ (l .1 i k .1 ∙ sym (getD-map-counting unit 0 (length us) i i 0 k (omega arith))));
+    narrow = λ j h. subst (λ x. getD cs j 0 < 2 ^ x) (sym (l .0)) (w .narrow j h);
+  }
     where
       us : List ℕ
       us = check-columns cs ds
+
       l : Located cs ds us
       l = computed-located (not-bare (w .units))

@@ -39,12 +39,13 @@ located c = (r-checks c, λ i h. ((c .placed i h, c .aside i h), c .units i h))
 
 -- every code value is well formed
 pub every-code : (c : Code) → Wellformed (columns-of c) (data-of c)
-every-code c = record
-    { shape = subst (λ x. Shape x (length (data-of c))) (sym (n-columns c)) (subst (Shape (c .n)) (sym (k-data c)) (c .shape))
-    ; inside = c .inside
-    ; rising = c .rising
-    ; narrow = c .narrow
-    ; units = units-from (columns-of c) (data-of c) (checks-of c) (located c) (c .covered) }
+every-code c = record {
+  shape = subst (λ x. Shape x (length (data-of c))) (sym (n-columns c)) (subst (Shape (c .n)) (sym (k-data c)) (c .shape));
+  inside = c .inside;
+  rising = c .rising;
+  narrow = c .narrow;
+  units = units-from (columns-of c) (data-of c) (checks-of c) (located c) (c .covered);
+}
 
 -- its check columns are the ones that the definitions compute
 pub checks-computed : (c : Code) → checks-of c ≡ check-columns (columns-of c) (data-of c)
@@ -98,5 +99,5 @@ encoded c d carried s top p q t =
     let p′ : carried ≡ place (data-of c) d = p ∙ ap (λ xs. place xs d) (part (c .k) (c .message)) in
     let q′ : s ≡ syndrome (columns-of c) (place (data-of c) d) = q ∙ ap₂ combine (part (c .n) (c .values)) p′ in
     let t′ : top ≡ place (check-columns (columns-of c) (data-of c)) (syndrome (columns-of c) (place (data-of c) d))
-           = t ∙ ap₂ place (part (c .n - c .k) (c .checks) ∙ checks-computed c) q′ in
+    = t ∙ ap₂ place (part (c .n - c .k) (c .checks) ∙ checks-computed c) q′ in
     ap₂ bitXor p′ t′

@@ -21,9 +21,10 @@ abbrev pub gather : List ℕ → ℕ → ℕ
 gather [] w = 0
 gather (j ∷ js) w = gather js w * 2 + bit w j
 
-abbrev pub weight : ℕ → ℕ
-weight j = 2 ^ j
+-- the word with a one in place j only
+abbrev pub unit : ℕ → ℕ
+unit j = 2 ^ j
 
 -- the word with bit i of d at the i-th of the places js, and zero elsewhere
 abbrev pub place : List ℕ → ℕ → ℕ
-place js d = combine (map weight js) d
+place js d = combine (map unit js) d

@@ -6,10 +6,11 @@ ghost use Rattle.code.specs.Codes.{Shape, Inside, Rising, Narrow, Aside, Holdi
 use crate::limits::MOST_CHECKS;
 use crate::limits::MOST_COLUMNS;
 
+mod columns;
+mod counts;
 mod encode;
 pub mod fresh;
 mod open;
-mod questions;
 mod syndrome;
 
 // A code of n columns, k of them data columns, with r = n - k rows.

@@ -83,7 +83,11 @@ pub(crate) fn covers(numbers: &[usize], checks: &[usize], n: usize) -> bool
 }
 
 // The check column of each row, where the check columns hold the units.
-pub(crate) fn check_columns(values: &[u64], numbers: &[usize], r: usize) -> Option<[usize; MOST_CHECKS]>
+pub(crate) fn check_columns(
+    values: &[u64],
+    numbers: &[usize],
+    r: usize,
+) -> Option<[usize; MOST_CHECKS]>
     requires { ⌜ r ≤ most-checks ⌝ ∗ ⌜ r ≡ length (now values) - length (now numbers) ⌝ }
     ensures { λ o. ⌜ BySome o (Units (now (values .entry)) (now (numbers .entry)) → ⊥)
         (λ us. ((i : ℕ) → i < r → Row (now (values .entry)) (now (numbers .entry)) us i) × Covered (now (values .entry)) (now (numbers .entry)) (take r us)) ⌝ }

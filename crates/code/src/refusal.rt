@@ -1,5 +1,6 @@
 ghost use mathlib.Core.Path.{_≡_};
-ghost use Rattle.code.specs.Refusals.{number-of};
+ghost use Rattle.std.specs.Finite.{nth};
+ghost use Rattle.code.specs.Refusals.{number-of, values-of, clash-values};
 
 // Two patterns that no decoder can tell apart, and two data words that show it:
 // `first` struck by `earlier` and `second` struck by `later` are one received word.
@@ -9,6 +10,21 @@ pub struct Clash {
     pub later: u64,
     pub first: u64,
     pub second: u64,
+}
+
+impl Clash {
+    // The patterns, the earlier first, and then the data words in the same order.
+    pub fn value_at(self, i: usize) -> Option<u64>
+        ensures { λ r. ⌜ r ≡ nth (clash-values self) i ⌝ }
+    {
+        match i {
+            0 => Some(self.earlier),
+            1 => Some(self.later),
+            2 => Some(self.first),
+            3 => Some(self.second),
+            _ => None,
+        }
+    }
 }
 
 // Why the product says no. One enum serves every layer, so that a refusal passes through unchanged.
@@ -65,6 +81,20 @@ impl Refusal {
             Refusal::LostCell => 11,
             Refusal::ShortTable => 12,
             Refusal::CampaignFull => 13,
+        }
+    }
+
+    // The i-th of the values that go with the number, counted from 0.
+    pub fn value_at(self, i: usize) -> Option<u64>
+        ensures { λ r. ⌜ r ≡ nth (values-of self) i ⌝ }
+    {
+        match self {
+            Refusal::OutOfBoundsAt(at)
+            | Refusal::DataColumn(at)
+            | Refusal::ColumnValue(at)
+            | Refusal::TooWideAt(at) => { if i == 0 { Some(at as u64) } else { None } }
+            Refusal::CorrectableClash(clash) | Refusal::DetectableClash(clash) => clash.value_at(i),
+            _ => None,
         }
     }
 }

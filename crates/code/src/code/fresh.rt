@@ -15,6 +15,12 @@ pub impl Default for Code as CodeDefault {
         values[1] = 1;
         let mut checks = [0; MOST_CHECKS];
         checks[0] = 1;
-        Code { values, message: [0; MOST_COLUMNS], checks, n: 2, k: 1 }
+        Code {
+            values,
+            message: [0; MOST_COLUMNS],
+            checks,
+            n: 2,
+            k: 1,
+        }
     }
 }

@@ -34,6 +34,12 @@ impl Code {
         };
         let values = padded(values, 0);
         let message = padded(numbers, 0);
-        Ok(Code { values, message, checks, n, k })
+        Ok(Code {
+            values,
+            message,
+            checks,
+            n,
+            k,
+        })
     }
 }

@@ -24,10 +24,11 @@ returns-in-rest c u =
 
 pub loop-i-again : need.loop-i-again
 loop-i-again c =
-    let h = c .in-Some .ensures tt in
-    ( length-set (c .loop-i .checks) (c .loop-i .i) (c .in-Some .j) ∙ c .loop-i .inv .0
-    , row-set (c .args .values .now) (c .args .numbers .now) (c .loop-i .checks) (c .loop-i .i) (c .in-Some .j) (omega (arith, c .loop-i .inv .0, c .pre .0, c .loop-i-test .taken)) (c .loop-i .inv .1)
-        ((h .0, h .1), h .2 ∙ c .power .ensures) )
+    let h = c .in-Some .ensures tt in (
+      length-set (c .loop-i .checks) (c .loop-i .i) (c .in-Some .j) ∙ c .loop-i .inv .0,
+      row-set (c .args .values .now) (c .args .numbers .now) (c .loop-i .checks) (c .loop-i .i) (c .in-Some .j) (omega (arith, c .loop-i .inv .0, c .pre .0, c .loop-i-test .taken)) (c .loop-i .inv .1)
+          ((h .0, h .1), h .2 ∙ c .power .ensures),
+    )
 
 pub returns-then-not-covers : need.returns-then-not-covers
 returns-then-not-covers c u =
@@ -40,6 +41,7 @@ returns-then-not-covers c u =
     (subst (λ x. Covered cs ds (take x us)) (sym (sub-zero r)) (covered-from cs ds (take r us) u l))
 
 pub returns : need.returns
-returns c =
-    ( (λ i h. c .loop-i .inv .1 i (omega (arith, c .loop-i-test .left)))
-    , subst (λ x. Covered (c .args .values .now) (c .args .numbers .now) (take x (c .loop-i .checks))) (sub-zero (c .args .r)) (c .covers .ensures .0 (c .if-not-covers .left)) )
+returns c = (
+  (λ i h. c .loop-i .inv .1 i (omega (arith, c .loop-i-test .left))),
+  subst (λ x. Covered (c .args .values .now) (c .args .numbers .now) (take x (c .loop-i .checks))) (sub-zero (c .args .r)) (c .covers .ensures .0 (c .if-not-covers .left)),
+)

@@ -12,9 +12,10 @@ loop-i-again g c =
     let i = c .loop-i .i in
     let vs = c .args .values .now in
     let x = c .index-values-i .result in
-    let h : i < length all = omega (arith, c .loop-i .inv .0, c .pre, c .loop-i-test .taken) in
-    ( length-set all i x ∙ c .loop-i .inv .0
-    , take-more-set all i x h ∙ (ap (λ xs. xs ++ (x ∷ [])) (c .loop-i .inv .1) ∙ (ap (λ y. take i vs ++ (y ∷ [])) (c .index-values-i .is) ∙ sym (take-more vs i x (c .loop-i-test .taken)))) )
+    let h : i < length all = omega (arith, c .loop-i .inv .0, c .pre, c .loop-i-test .taken) in (
+      length-set all i x ∙ c .loop-i .inv .0,
+      take-more-set all i x h ∙ (ap (λ xs. xs ++ (x ∷ [])) (c .loop-i .inv .1) ∙ (ap (λ y. take i vs ++ (y ∷ [])) (c .index-values-i .is) ∙ sym (take-more vs i x (c .loop-i-test .taken)))),
+    )
 
 pub returns : need.returns
 returns g c =

@@ -6,7 +6,7 @@ use lib.Bits.{and-le-r}
 use lib.Count.{trailingZeros}
 use lib.ListN.{length}
 use Rattle.std.proofs.shelf.Lists.{getD-map}
-use Rattle.code.specs.Words.{weight}
+use Rattle.code.specs.Words.{unit}
 use Rattle.code.proofs.Lowest.{lowest-below, take-lowest, taken-all}
 use Rattle.code.proofs.words.placed.Needs as need
 
@@ -20,9 +20,10 @@ pub loop-rest-again : need.loop-rest-again
 loop-rest-again c =
     let js = c .args .places .now in
     let rest = c .loop-rest .rest in
-    let h : trailingZeros 64 rest < length js = lowest-below 64 (length js) rest (omega arith) (omega arith) (omega arith) in
-    ( take-lowest (map weight js) 64 rest (c .loop-rest .word) _ _ (omega arith) (omega arith) (c .loop-rest .inv .0) (c .power-word .ensures ∙ sym (getD-map weight js (trailingZeros 64 rest) 0 0 h))
-    , omega (arith, and-le-r rest (rest - 1)) )
+    let h : trailingZeros 64 rest < length js = lowest-below 64 (length js) rest (omega arith) (omega arith) (omega arith) in (
+      take-lowest (map unit js) 64 rest (c .loop-rest .word) _ _ (omega arith) (omega arith) (c .loop-rest .inv .0) (c .power-word .ensures ∙ sym (getD-map unit js (trailingZeros 64 rest) 0 0 h)),
+      omega (arith, and-le-r rest (rest - 1)),
+    )
 
 pub returns : need.returns
-returns c = taken-all (map weight (c .args .places .now)) (c .loop-rest .rest) (c .loop-rest .word) _ (omega arith) (c .loop-rest .inv .0)
+returns c = taken-all (map unit (c .args .places .now)) (c .loop-rest .rest) (c .loop-rest .word) _ (omega arith) (c .loop-rest .inv .0)

@@ -15,15 +15,17 @@ gathered-requires c κs = let self = c .args .self .now in
 
 pub returns-then-word-power : need.returns-then-word-power
 returns-then-word-power c = let self = c .args .self .now in
-    record
-    { value = beyond (length (columns-of self)) (self .n) (c .args .word) (c .power .result) _ (n-columns self) (c .power .ensures) (c .if-word-power .taken)
-    ; one = one-data-word (columns-of self) (data-of self) (every-code self)
-    ; back = reads-back (columns-of self) (data-of self) (every-code self) }
+    record {
+      value = beyond (length (columns-of self)) (self .n) (c .args .word) (c .power .result) _ (n-columns self) (c .power .ensures) (c .if-word-power .taken);
+      one = one-data-word (columns-of self) (data-of self) (every-code self);
+      back = reads-back (columns-of self) (data-of self) (every-code self);
+    }
 
 pub returns : need.returns
 returns c = let self = c .args .self .now in
-    record
-    { value = not-beyond (length (columns-of self)) (self .n) (c .args .word) (c .power .result) _ (c .gathered .result) (n-columns self) (c .power .ensures) (c .if-word-power .left)
-        (c .gathered .ensures ∙ ap (λ xs. gather xs (c .args .word)) (part (self .k) (self .message)))
-    ; one = one-data-word (columns-of self) (data-of self) (every-code self)
-    ; back = reads-back (columns-of self) (data-of self) (every-code self) }
+    record {
+      value = not-beyond (length (columns-of self)) (self .n) (c .args .word) (c .power .result) _ (c .gathered .result) (n-columns self) (c .power .ensures) (c .if-word-power .left)
+          (c .gathered .ensures ∙ ap (λ xs. gather xs (c .args .word)) (part (self .k) (self .message)));
+      one = one-data-word (columns-of self) (data-of self) (every-code self);
+      back = reads-back (columns-of self) (data-of self) (every-code self);
+    }

@@ -9,14 +9,16 @@ use Rattle.code.proofs.code.Code.encode.Needs as need
 
 pub returns-then-word-power : need.returns-then-word-power
 returns-then-word-power c = let self = c .args .self .now in
-    record
-    { value = beyond (length (data-of self)) (self .k) (c .args .word) (c .power .result) _ (k-data self) (c .power .ensures) (c .if-word-power .taken)
-    ; one = one-codeword (columns-of self) (data-of self) (every-code self) }
+    record {
+      value = beyond (length (data-of self)) (self .k) (c .args .word) (c .power .result) _ (k-data self) (c .power .ensures) (c .if-word-power .taken);
+      one = one-codeword (columns-of self) (data-of self) (every-code self);
+    }
 
 pub placed-carried-requires : need.placed-carried-requires
-placed-carried-requires c κs = let self = c .args .self .now in
-    ( subst (λ x. c .args .word < 2 ^ x) (sym (ap length (part (self .k) (self .message)) ∙ k-data self)) (omega (arith, c .power .ensures, c .if-word-power .left))
-    , data-places self )
+placed-carried-requires c κs = let self = c .args .self .now in (
+  subst (λ x. c .args .word < 2 ^ x) (sym (ap length (part (self .k) (self .message)) ∙ k-data self)) (omega (arith, c .power .ensures, c .if-word-power .left)),
+  data-places self,
+)
 
 pub combined-syndrome-requires : need.combined-syndrome-requires
 combined-syndrome-requires c κs = carried-below (c .args .self .now) (c .args .word) (c .placed-carried .result) (c .placed-carried .ensures)
@@ -27,7 +29,8 @@ placed-requires c κs = let self = c .args .self .now in
 
 pub returns : need.returns
 returns c = let self = c .args .self .now in
-    record
-    { value = not-beyond (length (data-of self)) (self .k) (c .args .word) (c .power .result) _ _ (k-data self) (c .power .ensures) (c .if-word-power .left)
-        (encoded self (c .args .word) (c .placed-carried .result) (c .combined-syndrome .result) (c .placed .result) (c .placed-carried .ensures) (c .combined-syndrome .ensures) (c .placed .ensures))
-    ; one = one-codeword (columns-of self) (data-of self) (every-code self) }
+    record {
+      value = not-beyond (length (data-of self)) (self .k) (c .args .word) (c .power .result) _ _ (k-data self) (c .power .ensures) (c .if-word-power .left)
+          (encoded self (c .args .word) (c .placed-carried .result) (c .combined-syndrome .result) (c .placed .result) (c .placed-carried .ensures) (c .combined-syndrome .ensures) (c .placed .ensures));
+      one = one-codeword (columns-of self) (data-of self) (every-code self);
+    }

@@ -50,9 +50,11 @@ ghost-result c =
     let many-message : length (c .padded-message .result) ≡ most-columns = search needs in
     let found = c .in-Some-check-columns .ensures tt in
     let l : Located cs ds (take r us) = located-take cs ds us r (omega arith) refl (found .0) in
-    let w = wellformed-from cs ds (take r us) shape (c .in-rest .ensures tt) (c .in-rest-high-value .ensures tt) l (found .1) in
-    ((many-values, many-message, many), kept-from cs ds (take (length cs) (c .padded-values .result)) (take (length ds) (c .padded-message .result)) (take r us) (length cs) (length ds)
-    (c .padded-values .ensures) (c .padded-message .ensures) shape w l (found .1))
+    let w = wellformed-from cs ds (take r us) shape (c .in-rest .ensures tt) (c .in-rest-high-value .ensures tt) l (found .1) in (
+      (many-values, many-message, many),
+      kept-from cs ds (take (length cs) (c .padded-values .result)) (take (length ds) (c .padded-message .result)) (take r us) (length cs) (length ds)
+          (c .padded-values .ensures) (c .padded-message .ensures) shape w l (found .1),
+    )
 
 pub returns : need.returns
 returns c =

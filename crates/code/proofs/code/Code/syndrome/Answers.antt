@@ -8,15 +8,17 @@ use Rattle.code.proofs.code.Code.syndrome.Needs as need
 
 pub returns-then-word-power : need.returns-then-word-power
 returns-then-word-power c = let self = c .args .self .now in
-    record
-    { value = beyond (length (columns-of self)) (self .n) (c .args .word) (c .power .result) _ (n-columns self) (c .power .ensures) (c .if-word-power .taken)
-    ; linear = linear (columns-of self)
-    ; fits = syndromes-fit (columns-of self) (data-of self) (every-code self) }
+    record {
+      value = beyond (length (columns-of self)) (self .n) (c .args .word) (c .power .result) _ (n-columns self) (c .power .ensures) (c .if-word-power .taken);
+      linear = linear (columns-of self);
+      fits = syndromes-fit (columns-of self) (data-of self) (every-code self);
+    }
 
 pub returns : need.returns
 returns c = let self = c .args .self .now in
-    record
-    { value = not-beyond (length (columns-of self)) (self .n) (c .args .word) (c .power .result) _ (c .combined .result) (n-columns self) (c .power .ensures) (c .if-word-power .left)
-        (c .combined .ensures ∙ ap (λ xs. syndrome xs (c .args .word)) (part (self .n) (self .values)))
-    ; linear = linear (columns-of self)
-    ; fits = syndromes-fit (columns-of self) (data-of self) (every-code self) }
+    record {
+      value = not-beyond (length (columns-of self)) (self .n) (c .args .word) (c .power .result) _ (c .combined .result) (n-columns self) (c .power .ensures) (c .if-word-power .left)
+          (c .combined .ensures ∙ ap (λ xs. syndrome xs (c .args .word)) (part (self .n) (self .values)));
+      linear = linear (columns-of self);
+      fits = syndromes-fit (columns-of self) (data-of self) (every-code self);
+    }

@@ -1,6 +1,6 @@
 ghost use mathlib.Core.Path.{_≡_};
 ghost use lib.ListN.{length};
-ghost use Rattle.code.specs.Codes.{rows, Wellformed};
+ghost use Rattle.code.specs.Codes.{rows};
 ghost use Rattle.code.specs.Meaning.{columns-of, data-of};
 use crate::code::Code;
 
@@ -23,21 +23,6 @@ impl Code {
     pub fn check_count(&self) -> usize
         ensures { λ r. ⌜ r ≡ rows (columns-of (now (self .entry))) (data-of (now (self .entry))) ⌝ }
     {
-        self.n - self.k
-    }
-
-    // The value of each column.
-    pub fn column_values(&self) -> &[u64]
-        ensures value { λ r. ⌜ now r ≡ columns-of (now (self .entry)) ⌝ }
-        ensures wellformed { λ _. ⌜ Wellformed (columns-of (now (self .entry))) (data-of (now (self .entry))) ⌝ }
-    {
-        &self.values[0..self.n]
-    }
-
-    // The data column numbers, rising.
-    pub fn data_columns(&self) -> &[usize]
-        ensures { λ r. ⌜ now r ≡ data-of (now (self .entry)) ⌝ }
-    {
-        &self.message[0..self.k]
+        self.column_count() - self.data_count()
     }
 }

@@ -1,0 +1,5 @@
+// Tests of the layers below, in a crate of their own so that each layer is proved once.
+#[cfg(test)]
+mod codes;
+#[cfg(test)]
+mod naive;
