@@ -1,12 +1,12 @@
 // A second way to the same answers: every column is looked at in turn, bit by bit, over true and false.
 
 // The bit of the word in column j.
-pub fn bit(word: u64, j: usize) -> bool {
+pub(crate) fn bit(word: u64, j: usize) -> bool {
     j < 64 && (word >> j) % 2 == 1
 }
 
 // The syndrome, row by row: the parity of the ones that a row covers.
-pub fn syndrome(values: &[u64], word: u64) -> u64 {
+pub(crate) fn syndrome(values: &[u64], word: u64) -> u64 {
     let mut sum = 0;
     for i in 0..16 {
         let mut odd = false;
@@ -23,7 +23,7 @@ pub fn syndrome(values: &[u64], word: u64) -> u64 {
 }
 
 // The bits of the word in the data columns.
-pub fn data_bits(numbers: &[usize], word: u64) -> u64 {
+pub(crate) fn data_bits(numbers: &[usize], word: u64) -> u64 {
     let mut bits = 0;
     for (i, j) in numbers.iter().enumerate() {
         if i < 64 && bit(word, *j) {
