@@ -1,19 +1,17 @@
 -- What every code value is, from the facts that its type holds.
 use Prim.Native.Nat.{ℕ, _-_, _^_, _<_, _≤_}
-use mathlib.Core.Path.{_≡_, refl, sym, ap, ap₂, _∙_, subst}
-use mathlib.Core.Bool.{cond}
+use mathlib.Core.Path.{_≡_, sym, ap, ap₂, _∙_, subst}
 use mathlib.Core.List.{List}
 use native.Mathlib.Omega.{arith}
 use borrow.Rule.Slice.PartMut.{midOf}
 use native.Mathlib.Nat.{sub-zero}
-use lib.Bits.{bitXor}
 use lib.ListN.{length, getD, take}
 use Rattle.std.specs.declared.result.Result.the-variants.{Ok, Err}
 use Rattle.std.proofs.shelf.Lists.{length-take-le}
 use Rattle.std.proofs.shelf.Tests.{lt-ltb, le-ltb, cond-true, cond-false}
 use lib.Dec.{ltb}
-use Rattle.code.specs.Words.{combine, place}
-use Rattle.code.specs.Codes.{rows, syndrome, Wellformed, Shape, check-columns, encoding}
+use Rattle.code.specs.Words.{place}
+use Rattle.code.specs.Codes.{rows, syndrome, Inside, Wellformed, Shape, check-columns}
 use Rattle.code.specs.Meaning.{columns-of, data-of, within}
 use Rattle.code.specs.declared.code.Code.{Code}
 use Rattle.code.specs.declared.refusal.Refusal.{Refusal}
@@ -71,33 +69,24 @@ not-beyond width n w p answer r e q h a = ap Ok a ∙ sym (answered width w answ
 pub part : (k : ℕ) (xs : List ℕ) → midOf 0 (k - 0) xs ≡ take k xs
 part k xs = ap (λ x. take x xs) (sub-zero k)
 
--- columns of a code fit a word of 64 bits
-pub data-places : (c : Code) (i : ℕ) → i < length (midOf 0 (c .k - 0) (c .message)) → getD (midOf 0 (c .k - 0) (c .message)) i 0 < 64
-data-places c = subst (λ xs. (i : ℕ) → i < length xs → getD xs i 0 < 64) (sym (part (c .k) (c .message)))
-    (λ i h. omega (arith, c .inside i h, n-columns c, c .shape .1))
+-- ---- what the steps of a call need of the lists xs that it reads, which are lists of the code
 
-pub check-places : (c : Code) (i : ℕ) → i < length (midOf 0 (c .n - c .k - 0) (c .checks)) → getD (midOf 0 (c .n - c .k - 0) (c .checks)) i 0 < 64
-check-places c = subst (λ xs. (i : ℕ) → i < length xs → getD xs i 0 < 64) (sym (part (c .n - c .k) (c .checks)))
-    (λ i h. omega (arith, c .placed i h, n-columns c, c .shape .1))
+pub within-list : (xs ys : List ℕ) (n w p : ℕ) → xs ≡ ys → length ys ≡ n → p ≡ 2 ^ n → w < p → w < 2 ^ length xs
+within-list xs ys n w p e l q h = subst (λ x. w < 2 ^ x) (sym (ap length e ∙ l)) (omega arith)
 
--- the three steps of an encoding
-pub carried-below : (c : Code) (d carried : ℕ) → carried ≡ place (midOf 0 (c .k - 0) (c .message)) d → carried < 2 ^ length (midOf 0 (c .n - 0) (c .values))
-carried-below c d carried e =
-    subst (λ xs. carried < 2 ^ length xs) (sym (part (c .n) (c .values)))
-    (subst (λ x. x < 2 ^ length (columns-of c)) (sym (e ∙ ap (λ xs. place xs d) (part (c .k) (c .message)))) (place-lt (length (columns-of c)) (data-of c) d (c .inside)))
+-- a column of a code is below the width of a word
+pub places : (c : Code) (xs js : List ℕ) → xs ≡ js → Inside (columns-of c) js → (i : ℕ) → i < length xs → getD xs i 0 < 64
+places c xs js e f = subst (λ ys. (i : ℕ) → i < length ys → getD ys i 0 < 64) (sym e) (λ i h. omega (arith, f i h, n-columns c, c .shape .1))
 
-pub syndrome-below : (c : Code) (w s : ℕ) → s ≡ combine (midOf 0 (c .n - 0) (c .values)) w → s < 2 ^ length (midOf 0 (c .n - c .k - 0) (c .checks))
-syndrome-below c w s e =
-    subst (λ xs. s < 2 ^ length xs) (sym (part (c .n - c .k) (c .checks)))
-    (subst (λ x. s < 2 ^ x) (sym (r-checks c))
-    (subst (λ x. x < 2 ^ rows (columns-of c) (data-of c)) (sym (e ∙ ap (λ xs. combine xs w) (part (c .n) (c .values))))
-    (syndromes-fit (columns-of c) (data-of c) (every-code c) w)))
+pub checks-inside : (c : Code) → Inside (columns-of c) (check-columns (columns-of c) (data-of c))
+checks-inside c = subst (Inside (columns-of c)) (checks-computed c) (c .placed)
 
-pub encoded : (c : Code) (d carried s top : ℕ) → carried ≡ place (midOf 0 (c .k - 0) (c .message)) d → s ≡ combine (midOf 0 (c .n - 0) (c .values)) carried
-    → top ≡ place (midOf 0 (c .n - c .k - 0) (c .checks)) s → bitXor carried top ≡ encoding (columns-of c) (data-of c) d
-encoded c d carried s top p q t =
-    let p′ : carried ≡ place (data-of c) d = p ∙ ap (λ xs. place xs d) (part (c .k) (c .message)) in
-    let q′ : s ≡ syndrome (columns-of c) (place (data-of c) d) = q ∙ ap₂ combine (part (c .n) (c .values)) p′ in
-    let t′ : top ≡ place (check-columns (columns-of c) (data-of c)) (syndrome (columns-of c) (place (data-of c) d))
-    = t ∙ ap₂ place (part (c .n - c .k) (c .checks) ∙ checks-computed c) q′ in
-    ap₂ bitXor p′ t′
+-- a word with bits in data columns alone has n bits
+pub carried-below : (c : Code) (xs : List ℕ) (d w : ℕ) → xs ≡ columns-of c → w ≡ place (data-of c) d → w < 2 ^ length xs
+carried-below c xs d w e p = subst (λ ys. w < 2 ^ length ys) (sym e) (subst (λ x. x < 2 ^ length (columns-of c)) (sym p) (place-lt (length (columns-of c)) (data-of c) d (c .inside)))
+
+-- a syndrome has a bit for each check column
+pub syndrome-below : (c : Code) (xs : List ℕ) (w s : ℕ) → xs ≡ check-columns (columns-of c) (data-of c) → s ≡ syndrome (columns-of c) w → s < 2 ^ length xs
+syndrome-below c xs w s e p =
+    subst (λ x. s < 2 ^ x) (sym (ap length e ∙ (sym (ap length (checks-computed c)) ∙ r-checks c)))
+    (subst (λ x. x < 2 ^ rows (columns-of c) (data-of c)) (sym p) (syndromes-fit (columns-of c) (data-of c) (every-code c) w))

@@ -1,5 +1,5 @@
 ghost use mathlib.Core.Path.{_≡_};
-ghost use Rattle.code.specs.Codes.{Wellformed};
+ghost use Rattle.code.specs.Codes.{Wellformed, check-columns};
 ghost use Rattle.code.specs.Meaning.{columns-of, data-of};
 use crate::code::Code;
 
@@ -17,5 +17,12 @@ impl Code {
         ensures { λ r. ⌜ now r ≡ data-of (now (self .entry)) ⌝ }
     {
         &self.message[0..self.k]
+    }
+
+    // The check column of each row.
+    pub(crate) fn check_columns(&self) -> &[usize]
+        ensures { λ r. ⌜ now r ≡ check-columns (columns-of (now (self .entry))) (data-of (now (self .entry))) ⌝ }
+    {
+        &self.checks[0..self.n - self.k]
     }
 }

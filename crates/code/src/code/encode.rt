@@ -20,9 +20,9 @@ impl Code {
         if word >= power(self.k) {
             return Err(Refusal::TooWide);
         }
-        let carried = placed(&self.message[0..self.k], word);
-        let syndrome = combined(&self.values[0..self.n], carried);
-        Ok(carried ^ placed(&self.checks[0..self.n - self.k], syndrome))
+        let carried = placed(self.data_columns(), word);
+        let syndrome = combined(self.column_values(), carried);
+        Ok(carried ^ placed(self.check_columns(), syndrome))
     }
 
     // The bits of a word in the data columns.
@@ -34,6 +34,6 @@ impl Code {
         if word >= power(self.n) {
             return Err(Refusal::TooWide);
         }
-        Ok(gathered(&self.message[0..self.k], word))
+        Ok(gathered(self.data_columns(), word))
     }
 }

@@ -18,6 +18,6 @@ impl Code {
         if word >= power(self.n) {
             return Err(Refusal::TooWide);
         }
-        Ok(combined(&self.values[0..self.n], word))
+        Ok(combined(self.column_values(), word))
     }
 }
