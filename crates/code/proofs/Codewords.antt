@@ -1,14 +1,13 @@
 -- Every well-formed code pairs data words and code words one to one.
-use Prim.Native.Nat.{ℕ, _^_, _<_}
-use mathlib.Core.Path.{_≡_, refl, sym, ap, _∙_}
+use Prim.Native.Nat.{ℕ}
+use mathlib.Core.Path.{refl, sym, ap, _∙_}
 use mathlib.Core.List.{List}
-use lib.ListN.{length}
 use Rattle.code.specs.Words.{gather}
-use Rattle.code.specs.Codes.{rows, syndrome, Encodes, Wellformed, encoding, check-columns}
+use Rattle.code.specs.Codes.{rows, Wellformed, check-columns}
 use Rattle.code.specs.Laws.{Linear, SyndromesFit, OneCodeword, OneDataWord, ReadsBack}
 use Rattle.code.proofs.Combining.{combine-xor, combine-pow, combine-lt}
 use Rattle.code.proofs.Gathering.{gather-lt}
-use Rattle.code.proofs.Systematic.{Systematic, constructed-encodes, encodes-once}
+use Rattle.code.proofs.Systematic.{constructed-encodes, encodes-once}
 use Rattle.code.proofs.Units.{systematic}
 
 pub linear : (cs : List ℕ) → Linear cs

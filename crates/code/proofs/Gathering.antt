@@ -1,5 +1,5 @@
 -- The bits of a word at some places.
-use Prim.Native.Nat.{ℕ, zero, suc, _+_, _-_, _*_, _^_, _<_, _≤_}
+use Prim.Native.Nat.{ℕ, _+_, _-_, _*_, _^_, _<_, _≤_}
 use mathlib.Core.Path.{_≡_, refl, sym, ap, ap₂, _∙_}
 use mathlib.Core.List.{List, [], _∷_}
 use native.Mathlib.Omega.{arith}
@@ -10,17 +10,13 @@ use lib.ListN.{length, getD, drop, length-drop}
 use lib.Pow.{pow-mono}
 use Rattle.std.proofs.shelf.Lists.{at-drop-more}
 use Rattle.code.specs.Words.{bit, gather}
-use Rattle.code.proofs.Bits.{bit-lt, bit-xor, bit-none}
+use Rattle.code.proofs.Bits.{bit-lt, bit-xor}
 
 pub gather-xor : (js : List ℕ) (a b : ℕ) → gather js (bitXor a b) ≡ bitXor (gather js a) (gather js b)
 gather-xor [] a b = refl
 gather-xor (j ∷ js) a b =
     ap₂ (λ x y. x * 2 + y) (gather-xor js a b) (bit-xor a b j)
     ∙ sym (xor-block 1 (gather js a) (gather js b) (bit a j) (bit b j) (bit-lt a j) (bit-lt b j))
-
-pub gather-zero : (js : List ℕ) → gather js 0 ≡ 0
-gather-zero [] = refl
-gather-zero (j ∷ js) = ap₂ (λ x y. x * 2 + y) (gather-zero js) (bit-none j)
 
 pub gather-lt : (js : List ℕ) (w : ℕ) → gather js w < 2 ^ length js
 gather-lt [] w = lit< tt

@@ -1,13 +1,13 @@
 -- The lowest one bit of a word: where it stands, and the word without it. The word has fewer than k bits, for any k.
 use Prim.Native.Nat.{ℕ, zero, suc, _+_, _-_, _*_, _/_, _%_, _^_, _<_, _≤_}
-use mathlib.Core.Path.{_≡_, refl, sym, ap, ap₂, _∙_, subst}
-use mathlib.Core.List.{List, [], _∷_, map}
-use mathlib.Core.Logic.{_⊎_, inl, inr}
+use mathlib.Core.Path.{_≡_, sym, ap, ap₂, _∙_}
+use mathlib.Core.List.{List}
+use mathlib.Core.Logic.{inl, inr}
 use native.Mathlib.Omega.{arith}
 use native.Mathlib.Nat.{pow-suc, mul-assoc, mul-one, add-mul, one-mul, mul-comm, add-zero}
-use lib.Bits.{bitAnd, bitXor, and-block, and-self, and-zero-l, and-le-r, xor-assoc, xor-shifted, xor-comm, xor-zero-r}
+use lib.Bits.{bitAnd, bitXor, and-block, and-self, and-zero-l, xor-assoc, xor-shifted, xor-comm, xor-zero-r}
 use lib.Count.{trailingZeros, under}
-use lib.ListN.{length, getD}
+use lib.ListN.{getD}
 use lib.Pow.{pow-pos, pow-mono}
 use Rattle.std.proofs.shelf.Tests.{cases-lt}
 use Rattle.code.specs.Words.{combine}

@@ -1,5 +1,5 @@
 -- Which numbers a list holds.
-use Prim.Native.Nat.{ℕ, zero, suc, _+_, _<_, _≤_}
+use Prim.Native.Nat.{ℕ, zero, suc, _<_}
 use mathlib.Core.Path.{_≡_, refl, sym, subst}
 use mathlib.Core.Bool.{true, false}
 use mathlib.Core.List.{List, [], _∷_}
@@ -7,7 +7,7 @@ use mathlib.Core.Logic.{inl, inr}
 use native.Mathlib.Omega.{arith}
 use lib.Dec.{eqb}
 use lib.ListN.{length, getD}
-use Rattle.std.proofs.shelf.Tests.{cases-bool, both-ways, false≢true, eqb-true, eqb-false, eq-eqb, or-cases, or-parts, or-left, or-right}
+use Rattle.std.proofs.shelf.Tests.{cases-bool, both-ways, false≢true, eqb-true, eq-eqb, or-cases, or-left, or-right}
 use Rattle.code.specs.Search.{among}
 use Rattle.code.specs.Codes.{Beside}
 

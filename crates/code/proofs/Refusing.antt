@@ -1,7 +1,7 @@
 -- The refusal that is computed is the one that the words of the refusals say.
-use Prim.Native.Nat.{ℕ, zero, suc, _+_, _-_, _^_, _<_, _≤_}
-use mathlib.Core.Path.{_≡_, refl, sym, ap, _∙_}
-use mathlib.Core.Bool.{Bool, true, false, not, _&&_}
+use Prim.Native.Nat.{ℕ, zero, suc, _-_, _^_, _<_, _≤_}
+use mathlib.Core.Path.{_≡_, refl, ap, _∙_}
+use mathlib.Core.Bool.{Bool, true, false, _&&_}
 use mathlib.Core.List.{List}
 use mathlib.Core.Logic.{_⊎_, inl, inr}
 use native.Mathlib.Omega.{arith}
@@ -12,11 +12,11 @@ use Rattle.std.specs.declared.option.Option.the-variants.{Some, None}
 use Rattle.std.proofs.shelf.Tests.{cases-bool, cases-order, lt-ltb, le-ltb, le-leb, lt-leb, ltb-true, leb-true, and-parts, and-from, and-left, and-right, not-from-true, not-from-false}
 use Rattle.code.specs.Limits.{least-columns, most-columns, most-checks}
 use Rattle.code.specs.Search.{least}
-use Rattle.code.specs.Codes.{rows, Shape, Inside, Rising, Narrow, Units, Wellformed}
+use Rattle.code.specs.Codes.{rows, Shape, Rising, Narrow, Wellformed}
 use Rattle.code.specs.Opening.{floor, GoodColumn, GoodColumns, Refused, bad-column, high-value, units, unless, found-at, refusal}
 use Rattle.code.specs.declared.refusal.Refusal.{Refusal}
 use Rattle.code.specs.declared.refusal.Refusal.the-variants.{ColumnCount, OutOfBounds, OutOfBoundsAt, DataColumn, ColumnValue, NotUnits, CorrectableClash, DetectableClash, WidthsDiffer, BeyondEnd, TooWide, TooWideAt, LostCell, ShortTable, CampaignFull}
-use Rattle.code.proofs.Searching.{First, first-least}
+use Rattle.code.proofs.Searching.{first-least}
 use Rattle.code.proofs.Units.{units-computed, computed-units}
 
 -- each number above the one before: any above any before

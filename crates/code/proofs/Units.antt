@@ -1,8 +1,8 @@
 -- The check columns by their rows: as a list that a code value holds, as the definitions compute it, and as the relation says it.
-use Prim.Native.Nat.{ℕ, zero, suc, _+_, _-_, _^_, _<_, _≤_}
+use Prim.Native.Nat.{ℕ, _+_, _-_, _^_, _<_, _≤_}
 use mathlib.Core.Path.{_≡_, refl, sym, ap, _∙_, subst}
-use mathlib.Core.Bool.{Bool, true, false, not, _&&_, _||_}
-use mathlib.Core.List.{List, [], _∷_, map}
+use mathlib.Core.Bool.{true, false, not, _||_}
+use mathlib.Core.List.{List, map}
 use mathlib.Core.Logic.{inl, inr}
 use native.Mathlib.Omega.{arith}
 use lib.Dec.{eqb}
@@ -16,11 +16,11 @@ use Rattle.std.proofs.shelf.Lists.{length-map, length-take-le, getD-take, getD-
 use Rattle.std.proofs.shelf.Counted.{length-map-counting, getD-map-counting}
 use Rattle.code.specs.Words.{unit}
 use Rattle.code.specs.Search.{least, isNone, among}
-use Rattle.code.specs.Codes.{rows, Beside, Check, Units, Row, Covered, Inside, Rising, Narrow, Wellformed, holds, check-column, check-columns}
+use Rattle.code.specs.Codes.{rows, Check, Units, Row, Covered, Wellformed, holds, check-column, check-columns}
 use Rattle.code.specs.Opening.{bare-row, spare-column, units}
 use Rattle.code.proofs.Bits.{pow-injective}
 use Rattle.code.proofs.Searching.{First, least-first, none-fails, fails-none}
-use Rattle.code.proofs.Members.{among-at, place-of, beside, not-among, is-among, distinct-from}
+use Rattle.code.proofs.Members.{place-of, beside, not-among, is-among, distinct-from}
 use Rattle.code.proofs.Systematic.{Systematic}
 
 -- us names a check column for each row

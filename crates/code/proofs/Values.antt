@@ -14,7 +14,6 @@ use Rattle.code.specs.Words.{place}
 use Rattle.code.specs.Codes.{rows, syndrome, Inside, Wellformed, Shape, check-columns}
 use Rattle.code.specs.Meaning.{columns-of, data-of, within}
 use Rattle.code.specs.declared.code.Code.{Code}
-use Rattle.code.specs.declared.refusal.Refusal.{Refusal}
 use Rattle.code.specs.declared.refusal.Refusal.the-variants.{TooWide}
 use Rattle.code.proofs.Combining.{place-lt}
 use Rattle.code.proofs.Codewords.{syndromes-fit}

@@ -1,6 +1,5 @@
 -- Which column values cs and data column numbers ds are refused, and why.
 use Prim.Native.Nat.{ℕ, zero, suc, _+_, _-_, _^_, _<_, _≤_}
-use mathlib.Core.Path.{_≡_}
 use mathlib.Core.Bool.{Bool, true, false, not, _&&_, _||_}
 use mathlib.Core.List.{List}
 use mathlib.Core.Logic.{_⊎_}
@@ -10,7 +9,7 @@ use Rattle.std.specs.declared.option.Option.{Option}
 use Rattle.std.specs.declared.option.Option.the-variants.{Some, None}
 use Rattle.code.specs.Limits.{least-columns, most-columns, most-checks}
 use Rattle.code.specs.Search.{least, isNone, among}
-use Rattle.code.specs.Codes.{rows, Shape, Narrow, Units, Wellformed, check-column, check-columns}
+use Rattle.code.specs.Codes.{rows, Shape, Narrow, Units, check-column, check-columns}
 use Rattle.code.specs.declared.refusal.Refusal.{Refusal}
 use Rattle.code.specs.declared.refusal.Refusal.the-variants.{ColumnCount, OutOfBounds, OutOfBoundsAt, DataColumn, ColumnValue, NotUnits, CorrectableClash, DetectableClash, WidthsDiffer, BeyondEnd, TooWide, TooWideAt, LostCell, ShortTable, CampaignFull}
 

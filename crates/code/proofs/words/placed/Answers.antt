@@ -1,6 +1,6 @@
 use Prim.Native.Nat.{_-_, _<_}
 use mathlib.Core.List.{map}
-use mathlib.Core.Path.{sym, ap, _∙_}
+use mathlib.Core.Path.{sym, _∙_}
 use native.Mathlib.Omega.{arith}
 use lib.Bits.{and-le-r}
 use lib.Count.{trailingZeros}

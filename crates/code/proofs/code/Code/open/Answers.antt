@@ -1,10 +1,10 @@
-use Prim.Native.Nat.{_-_, _≤_}
+use Prim.Native.Nat.{_-_}
 use mathlib.Core.Path.{_≡_, refl}
 use native.Mathlib.Omega.{arith}
 use borrow.Author.Needs.{needs}
 use lib.ListN.{length, take}
 use Rattle.code.specs.Limits.{most-columns, most-checks}
-use Rattle.code.specs.Codes.{Shape, Wellformed}
+use Rattle.code.specs.Codes.{Shape}
 use Rattle.code.specs.Opening.{Refused}
 use Rattle.code.specs.declared.refusal.Refusal.the-variants.{DataColumn, ColumnValue, NotUnits}
 use Rattle.code.proofs.Refusing.{refused-says, wellformed-opens}
