@@ -1,0 +1,3 @@
+pub mod Emits
+pub mod RowSteps
+pub mod Stacks

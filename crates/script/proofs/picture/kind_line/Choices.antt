@@ -1,0 +1,12 @@
+use Prim.Native.Nat.{_-_}
+use mathlib.Core.Path.{_≡_}
+use mathlib.Core.List.{_++_}
+use lib.Chars.{codes}
+use lib.ListN.{drop}
+use Rattle.std.specs.Of.String.{string-bytes}
+use Rattle.std.specs.Of.Vec.{vec-items}
+use Rattle.script.specs.Pictured.{blanks, cell, counting, kindCells, label, numberCells, rowOf, rowLines, widest}
+use Rattle.script.proofs.picture.kind_line.Given as given
+
+abbrev pub Inv-loop-j : given.InvT-loop-j
+Inv-loop-j l = string-bytes (l .line) ++ kindCells (l .width) (l .data-columns) (l .count - l .j) (l .j) ≡ label (codes "kind") ++ kindCells (l .width) (l .data-columns) (l .count) 0

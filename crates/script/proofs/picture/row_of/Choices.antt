@@ -1,0 +1,12 @@
+use Prim.Native.Nat.{_-_}
+use mathlib.Core.Path.{_≡_}
+use mathlib.Core.List.{_++_}
+use lib.Chars.{codes}
+use lib.ListN.{drop}
+use Rattle.std.specs.Of.String.{string-bytes}
+use Rattle.std.specs.Of.Vec.{vec-items}
+use Rattle.script.specs.Pictured.{blanks, cell, counting, kindCells, label, numberCells, rowOf, rowLines, widest}
+use Rattle.script.proofs.picture.row_of.Given as given
+
+abbrev pub Inv-loop-v : given.InvT-loop-v
+Inv-loop-v l = vec-items (l .digits) ++ rowOf (l .i) (drop (l .v-index) (l .values)) ≡ rowOf (l .i) (l .values)

@@ -1,0 +1,12 @@
+-- What is said at the end of a script.
+use mathlib.Core.List.{List, []}
+use Prim.Native.Nat.{ℕ}
+use Rattle.std.specs.declared.option.Option.{Option}
+use Rattle.std.specs.declared.option.Option.the-variants.{Some, None}
+use Rattle.script.specs.declared.drawing.Drawing.{Drawing}
+use Rattle.script.specs.Unfinished.{unfinished}
+
+-- nothing, unless a drawing is left open
+abbrev pub ending : Option Drawing → List ℕ
+ending None = []
+ending (Some d) = unfinished (d .since)

@@ -1,0 +1,36 @@
+// The lab's script: what a line asks for, and the lines that answer it.
+mod command;
+mod comment;
+mod drawing;
+mod fault;
+mod noun;
+mod numeral;
+mod picture;
+mod refused;
+mod reply;
+mod row;
+mod session;
+
+pub use command::Command;
+pub use command::Stroke;
+pub use command::read_command;
+pub use command::read_stroke;
+pub use comment::without_comment;
+pub use drawing::Drawing;
+pub use fault::Fault;
+pub use fault::FaultDisplay;
+pub use fault::FaultFromAlloc;
+pub use fault::FaultFromRefused;
+pub use numeral::number;
+pub use picture::bits_text;
+pub use picture::matrix_picture;
+pub use refused::refused_code;
+pub use refused::refused_data_word;
+pub use refused::refused_word;
+pub use reply::data_line;
+pub use reply::encode_line;
+pub use reply::opened_line;
+pub use reply::syndrome_line;
+pub use reply::unfinished_line;
+pub use row::row_bits;
+pub use session::Session;

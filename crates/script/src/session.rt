@@ -1,0 +1,213 @@
+ghost use mathlib.Core.Path.{_≡_};
+ghost use Rattle.std.specs.Of.String.{string-bytes};
+ghost use Rattle.std.specs.Vec.{made, refused};
+ghost use Rattle.std.specs.declared.option.Option.the-variants.{None};
+ghost use Rattle.script.specs.Ending.{ending};
+ghost use Rattle.script.specs.Moves.{Moves};
+use crate::command::Command;
+use crate::command::Stroke;
+use crate::command::read_command;
+use crate::command::read_stroke;
+use crate::drawing::Drawing;
+use crate::fault::Fault;
+use crate::fault::FaultDisplay;
+use crate::fault::FaultFromAlloc;
+use crate::picture::matrix_picture;
+use crate::refused::refused_code;
+use crate::refused::refused_data_word;
+use crate::refused::refused_word;
+use crate::reply::data_line;
+use crate::reply::encode_line;
+use crate::reply::opened_line;
+use crate::reply::row_count_line;
+use crate::reply::syndrome_line;
+use crate::reply::unfinished_line;
+use crate::row::row_bits;
+use code::Code;
+use code::CodeDefault;
+use std::alloc::AllocError;
+use std::alloc::Global;
+
+// A script on its way: the code that it works with, and the drawing that is open.
+#[derive(Drop)]
+pub struct Session {
+    heap: Global,
+    code: Code,
+    drawing: Option<Drawing>,
+}
+
+impl Session {
+    pub fn new(heap: Global) -> Session
+        ensures { λ r. ⌜ r .drawing ≡ None ⌝ }
+    {
+        Session {
+            heap,
+            code: Code::default(),
+            drawing: None,
+        }
+    }
+
+    // Runs a line, and gives the text that answers it: an empty one where there is nothing to say.
+    pub fn run(&mut self, number: usize, line: &str) -> Result<String, AllocError>
+        ensures moves { λ r. ⌜ Moves number (now (self .entry) .code) (now (self .entry) .drawing) (now (self .exit) .code) (now (self .exit) .drawing) ⌝ }
+        ensures same { λ r. ⌜ refused r (λ _. now (self .exit) ≡ now (self .entry)) ⌝ }
+    {
+        let answer = if self.drawing.is_some() {
+            self.draw(number, line)
+        } else {
+            self.obey(number, line)
+        };
+        match answer {
+            Ok(text) => Ok(text),
+            Err(Fault::Memory) => Err(AllocError),
+            Err(fault) => fault_line(self.heap, number, fault),
+        }
+    }
+
+    // What is to say at the end of the script.
+    pub fn finish(&self) -> Result<String, AllocError>
+        ensures { λ r. ⌜ made r (λ t. string-bytes t ≡ ending (now (self .entry) .drawing)) ⌝ }
+    {
+        match &self.drawing {
+            Some(drawing) => unfinished_line(self.heap, drawing.since()),
+            None => Ok(String::new(self.heap)),
+        }
+    }
+
+    // A line while no drawing is open.
+    fn obey<'a>(&mut self, number: usize, line: &'a str) -> Result<String, Fault<'a>>
+        requires { ⌜ now self .drawing ≡ None ⌝ }
+        ensures moves { λ r. ⌜ Moves number (now (self .entry) .code) (now (self .entry) .drawing) (now (self .exit) .code) (now (self .exit) .drawing) ⌝ }
+        ensures same { λ r. ⌜ refused r (λ _. now (self .exit) ≡ now (self .entry)) ⌝ }
+    {
+        let text = match read_command(self.heap, line)? {
+            Command::Nothing => String::new(self.heap),
+            Command::Matrix => {
+                self.drawing = Some(Drawing::new(self.heap, number));
+                String::new(self.heap)
+            }
+            Command::Code { values, numbers } => self.open(values.as_slice(), numbers.as_slice())?,
+            Command::Show => self.picture()?,
+            Command::Encode(word) => self.encode(word)?,
+            Command::Syndrome(word) => self.syndrome(word)?,
+            Command::Data(word) => self.data_bits(word)?,
+        };
+        Ok(text)
+    }
+
+    fn open(&mut self, values: &[u64], numbers: &[usize]) -> Result<String, AllocError>
+        ensures drawing { λ r. ⌜ now (self .exit) .drawing ≡ now (self .entry) .drawing ⌝ }
+        ensures same { λ r. ⌜ refused r (λ _. now (self .exit) ≡ now (self .entry)) ⌝ }
+    {
+        match Code::open(values, numbers) {
+            Ok(code) => {
+                let text = opened_code(self.heap, &code)?;
+                self.code = code;
+                Ok(text)
+            }
+            Err(refusal) => refused_code(self.heap, refusal, values, numbers),
+        }
+    }
+
+    fn picture(&self) -> Result<String, AllocError> {
+        let code = &self.code;
+        matrix_picture(
+            self.heap,
+            code.column_values(),
+            code.data_columns(),
+            code.check_count(),
+        )
+    }
+
+    fn encode(&self, word: u64) -> Result<String, AllocError> {
+        match self.code.encode(word) {
+            Ok(codeword) => encode_line(self.heap, word, codeword, self.code.column_count()),
+            Err(refusal) => refused_data_word(self.heap, refusal, word, self.code.data_count()),
+        }
+    }
+
+    fn syndrome(&self, word: u64) -> Result<String, AllocError> {
+        match self.code.syndrome(word) {
+            Ok(syndrome) => syndrome_line(self.heap, word, syndrome, self.code.check_count()),
+            Err(refusal) => refused_word(self.heap, refusal, word, self.code.column_count()),
+        }
+    }
+
+    fn data_bits(&self, word: u64) -> Result<String, AllocError> {
+        match self.code.data_bits(word) {
+            Ok(message) => data_line(self.heap, word, message, self.code.data_count()),
+            Err(refusal) => refused_word(self.heap, refusal, word, self.code.column_count()),
+        }
+    }
+
+    // A line while a drawing is open.
+    fn draw<'a>(&mut self, number: usize, line: &'a str) -> Result<String, Fault<'a>>
+        ensures moves { λ r. ⌜ Moves number (now (self .entry) .code) (now (self .entry) .drawing) (now (self .exit) .code) (now (self .exit) .drawing) ⌝ }
+        ensures same { λ r. ⌜ refused r (λ _. now (self .exit) ≡ now (self .entry)) ⌝ }
+    {
+        let Some(drawing) = &mut self.drawing else {
+            return Ok(String::new(self.heap));
+        };
+        match read_stroke(self.heap, drawing.since(), line)? {
+            Stroke::Nothing => {}
+            Stroke::Row(text) => {
+                let row = row_bits(self.heap, text)?;
+                drawing.add_row(row.as_slice())?;
+            }
+            Stroke::Data(numbers) => return Ok(self.close(number, numbers.as_slice())?),
+        }
+        Ok(String::new(self.heap))
+    }
+
+    // Ends the drawing: it opens a code, or is refused, and the old code stays.
+    fn close(&mut self, number: usize, numbers: &[usize]) -> Result<String, AllocError>
+        ensures over { λ r. ⌜ made r (λ _. now (self .exit) .drawing ≡ None) ⌝ }
+        ensures same { λ r. ⌜ refused r (λ _. now (self .exit) ≡ now (self .entry)) ⌝ }
+    {
+        let Some(drawing) = &self.drawing else {
+            return Ok(String::new(self.heap));
+        };
+        let values = drawing.column_values();
+        let rows = drawing.row_count();
+        match Code::open(values, numbers) {
+            Ok(code) => {
+                let checks = code.check_count();
+                if rows == checks {
+                    let text = opened_code(self.heap, &code)?;
+                    self.code = code;
+                    self.drawing = None;
+                    return Ok(text);
+                }
+                let text = row_count_line(
+                    self.heap,
+                    number,
+                    rows,
+                    code.data_count(),
+                    code.column_count(),
+                    checks,
+                )?;
+                self.drawing = None;
+                Ok(text)
+            }
+            Err(refusal) => {
+                let text = refused_code(self.heap, refusal, values, numbers)?;
+                self.drawing = None;
+                Ok(text)
+            }
+        }
+    }
+}
+
+// A line that cannot be read, by its number and what is wrong with it.
+fn fault_line(heap: Global, number: usize, fault: Fault<'_>) -> Result<String, AllocError> {
+    format!(heap, "line {number}: {fault}")
+}
+
+fn opened_code(heap: Global, code: &Code) -> Result<String, AllocError> {
+    opened_line(
+        heap,
+        code.column_count(),
+        code.data_count(),
+        code.check_count(),
+    )
+}
