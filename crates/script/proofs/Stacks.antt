@@ -9,7 +9,7 @@ use native.Mathlib.Omega.{arith}
 use lib.ListN.{length, getD, drop, replicate}
 use lib.Pow.{pow-lt, pow-pos}
 use Rattle.std.proofs.shelf.Lists.{drop-all}
-use Rattle.script.proofs.Emits.{cut}
+use Rattle.std.proofs.shelf.Lists.{drop-more}
 use Rattle.script.specs.Stacked.{stacked, AllBelow}
 
 -- one more column is done
@@ -18,7 +18,7 @@ stack-more was after all above row i k g h same gain grown inv =
     let h2 : k < length row = omega arith in
     let rest : List ℕ = stacked i (drop (k + 1) above) (drop (k + 1) row) in
     let x : ℕ = getD above k 0 + cond (getD row k false) (2 ^ i) 0 in
-    let front : stacked i (drop k above) (drop k row) ≡ x ∷ rest = ap (λ (l : List ℕ). stacked i l (drop k row)) (cut above k 0 h) ∙ ap (λ (l : List Bool). stacked i (getD above k 0 ∷ drop (k + 1) above) l) (cut row k false h2) in
+    let front : stacked i (drop k above) (drop k row) ≡ x ∷ rest = ap (λ (l : List ℕ). stacked i l (drop k row)) (drop-more above k 0 h) ∙ ap (λ (l : List Bool). stacked i (getD above k 0 ∷ drop (k + 1) above) l) (drop-more row k false h2) in
     let pushed : after ≡ was ++ (x ∷ []) = grown ∙ ap (λ (y : ℕ). was ++ ((getD above k 0 + y) ∷ [])) gain in
     ap (λ (l : List ℕ). l ++ rest) pushed ∙ (append-assoc was (x ∷ []) rest ∙ (ap (λ (l : List ℕ). was ++ l) (sym front) ∙ inv))
 

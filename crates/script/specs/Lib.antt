@@ -1,11 +1,9 @@
 pub mod Numerals
-pub mod Drawn
 pub mod Stacked
 pub mod Untaken
 pub mod Rows
 pub mod Moves
 pub mod Nouns
-pub mod Pictured
 pub mod Comments
 pub mod Ending
 pub mod Unfinished

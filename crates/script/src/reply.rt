@@ -4,11 +4,11 @@ ghost use lib.Chars.{codes};
 ghost use Rattle.std.specs.Of.String.{string-bytes};
 ghost use Rattle.std.specs.Vec.{made};
 ghost use Rattle.std.specs.Written.{decimal};
-ghost use Rattle.script.specs.Drawn.{drawn};
+ghost use Rattle.picture.specs.Drawn.{drawn};
 ghost use Rattle.script.specs.Unfinished.{unfinished};
 use crate::noun::counted_text;
 use crate::noun::noun_for;
-use crate::picture::bits_text;
+use picture::bits_text;
 use std::alloc::AllocError;
 use std::alloc::Global;
 

@@ -12,7 +12,7 @@ use crate::drawing::Drawing;
 use crate::fault::Fault;
 use crate::fault::FaultDisplay;
 use crate::fault::FaultFromAlloc;
-use crate::picture::matrix_picture;
+use picture::matrix_picture;
 use crate::refused::refused_code;
 use crate::refused::refused_data_word;
 use crate::refused::refused_word;
