@@ -1,6 +1,6 @@
 -- Reading a drawn row, character by character.
-use mathlib.Core.Path.{_≡_, refl, ap, sym, subst, _∙_}
-use mathlib.Core.Bool.{Bool, true, false, cond}
+use mathlib.Core.Path.{_≡_, refl, ap, sym, _∙_}
+use mathlib.Core.Bool.{Bool, true, false}
 use mathlib.Core.List.{List, [], _∷_, _++_, append-assoc, append-nil}
 use Prim.Native.Nat.{ℕ}
 use lib.Dec.{eqb}
@@ -8,7 +8,6 @@ use lib.ListN.{length}
 use lib.Utf8.{encode}
 use Rattle.std.specs.Text.{Utf8}
 use Rattle.std.specs.Words.{white}
-use Rattle.std.specs.declared.option.Option.{Option}
 use Rattle.std.specs.declared.option.Option.the-variants.{Some, None}
 use Rattle.std.specs.shelf.Text.{decodes}
 use Rattle.std.proofs.shelf.Lists.{nil-from-length}

@@ -6,4 +6,5 @@ pub mod Moves
 pub mod Nouns
 pub mod Comments
 pub mod Ending
-pub mod Unfinished
+pub mod Replies
+pub mod Performed

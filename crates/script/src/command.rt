@@ -13,7 +13,7 @@ pub enum Command {
     // a drawing begins
     Matrix,
     // a code from its column values and its data columns
-    Code {
+    Open {
         values: Vec<u64>,
         numbers: Vec<usize>,
     },
@@ -66,7 +66,7 @@ fn code_command<'a>(heap: Global, mut words: SplitWhitespace<'a>) -> Result<Comm
     while let Some(word) = words.next() {
         if word == "data" {
             let numbers = column_numbers(heap, words)?;
-            return Ok(Command::Code { values, numbers });
+            return Ok(Command::Open { values, numbers });
         }
         values.push(number(word)?)?;
     }
@@ -74,7 +74,7 @@ fn code_command<'a>(heap: Global, mut words: SplitWhitespace<'a>) -> Result<Comm
 }
 
 // Reads a line while no drawing is open.
-pub fn read_command(heap: Global, line: &str) -> Result<Command, Fault<'_>> {
+pub(crate) fn read_command(heap: Global, line: &str) -> Result<Command, Fault<'_>> {
     let mut words = without_comment(line).split_whitespace();
     let Some(first) = words.next() else {
         return Ok(Command::Nothing);
@@ -98,7 +98,7 @@ pub fn read_command(heap: Global, line: &str) -> Result<Command, Fault<'_>> {
 
 // Reads a line of the drawing that is open since the line `since`. A line that begins with a digit is
 // meant as a row.
-pub fn read_stroke(heap: Global, since: usize, line: &str) -> Result<Stroke<'_>, Fault<'_>> {
+pub(crate) fn read_stroke(heap: Global, since: usize, line: &str) -> Result<Stroke<'_>, Fault<'_>> {
     let text = without_comment(line);
     let mut words = text.split_whitespace();
     let Some(first) = words.next() else {

@@ -12,7 +12,7 @@ use std::alloc::AllocError;
 use std::alloc::Global;
 
 // With at most 63 rows a column value fits 64 bits.
-pub const MOST_ROWS: usize = 63;
+pub(crate) const MOST_ROWS: usize = 63;
 
 // A matrix that is drawn row by row, the top row first.
 #[derive(Drop)]
@@ -29,7 +29,7 @@ pub struct Drawing {
 
 impl Drawing {
     // A drawing with no row yet.
-    pub fn new(heap: Global, since: usize) -> Drawing
+    pub(crate) fn new(heap: Global, since: usize) -> Drawing
         ensures line { λ r. ⌜ r .since ≡ since ⌝ }
         ensures blank { λ r. ⌜ (r .rows ≡ 0) × (vec-items (r .values) ≡ []) ⌝ }
     {
@@ -41,26 +41,26 @@ impl Drawing {
         }
     }
 
-    pub fn since(&self) -> usize
+    pub(crate) fn since(&self) -> usize
         ensures { λ r. ⌜ r ≡ now (self .entry) .since ⌝ }
     {
         self.since
     }
 
-    pub fn row_count(&self) -> usize
+    pub(crate) fn row_count(&self) -> usize
         ensures { λ r. ⌜ r ≡ now (self .entry) .rows ⌝ }
     {
         self.rows
     }
 
-    pub fn column_values(&self) -> &[u64]
+    pub(crate) fn column_values(&self) -> &[u64]
         ensures { λ r. ⌜ now r ≡ vec-items (now (self .entry) .values) ⌝ }
     {
         self.values.as_slice()
     }
 
     // Draws a row under the rows so far; the first row says how many columns there are.
-    pub fn add_row(&mut self, row: &[bool]) -> Result<(), Fault<'static>>
+    pub(crate) fn add_row(&mut self, row: &[bool]) -> Result<(), Fault<'static>>
         ensures drawn { λ r. ⌜ made r (λ _. Stacks (now (self .entry) .rows) (vec-items (now (self .entry) .values)) (now (row .entry)) (now (self .exit) .rows) (vec-items (now (self .exit) .values))) ⌝ }
         ensures line { λ r. ⌜ made r (λ _. now (self .exit) .since ≡ now (self .entry) .since) ⌝ }
         ensures same { λ r. ⌜ refused r (λ _. now (self .exit) ≡ now (self .entry)) ⌝ }

@@ -1,4 +1,5 @@
-// The lab's script: what a line asks for, and the lines that answer it.
+// The lab's script: what a line asks for, and the text that answers it.
+mod answer;
 mod command;
 mod comment;
 mod drawing;
@@ -11,23 +12,4 @@ mod row;
 mod session;
 
 pub use command::Command;
-pub use command::Stroke;
-pub use command::read_command;
-pub use command::read_stroke;
-pub use comment::without_comment;
-pub use drawing::Drawing;
-pub use fault::Fault;
-pub use fault::FaultDisplay;
-pub use fault::FaultFromAlloc;
-pub use fault::FaultFromRefused;
-pub use numeral::number;
-pub use refused::refused_code;
-pub use refused::refused_data_word;
-pub use refused::refused_word;
-pub use reply::data_line;
-pub use reply::encode_line;
-pub use reply::opened_line;
-pub use reply::syndrome_line;
-pub use reply::unfinished_line;
-pub use row::row_bits;
 pub use session::Session;

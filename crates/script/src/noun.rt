@@ -6,14 +6,14 @@ use std::alloc::AllocError;
 use std::alloc::Global;
 
 // The word for so many things, as `row` for one and `rows` for any other number of them.
-pub fn noun_for(count: usize, one: &'static str, many: &'static str) -> &'static str
+pub(crate) fn noun_for(count: usize, one: &'static str, many: &'static str) -> &'static str
     ensures { λ r. ⌜ now r ≡ oneOr count (now (one .entry)) (now (many .entry)) ⌝ }
 {
     if count == 1 { one } else { many }
 }
 
 // A number of things in words, as `1 row` or `2 rows`.
-pub fn counted_text(
+pub(crate) fn counted_text(
     heap: Global,
     count: usize,
     one: &'static str,

@@ -6,7 +6,7 @@ ghost use Rattle.script.specs.Numerals.{Reads};
 use crate::fault::Fault;
 
 // A decimal number of at most 64 bits, with no sign.
-pub fn number(word: &str) -> Result<u64, Fault<'_>>
+pub(crate) fn number(word: &str) -> Result<u64, Fault<'_>>
     ensures reads { λ r. ⌜ Reads (now (word .entry)) r ⌝ }
     ensures back { λ r. ⌜ ((n : ℕ) → n < 2 ^ 64 → now (word .entry) ≡ decimal n → r ≡ Ok n) ⌝ }
 {

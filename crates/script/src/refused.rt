@@ -1,3 +1,6 @@
+ghost use Rattle.std.specs.Of.String.{string-bytes};
+ghost use Rattle.std.specs.Vec.{made};
+ghost use Rattle.script.specs.Replies.{Says};
 use crate::noun::counted_text;
 use code::Clash;
 use code::LEAST_COLUMNS;
@@ -25,7 +28,9 @@ fn place_of(refusal: Refusal) -> Place {
 }
 
 // A refusal in a student's words: its number, its place and why.
-fn refused_line(heap: Global, refusal: Refusal, why: &str) -> Result<String, AllocError> {
+fn refused_line(heap: Global, refusal: Refusal, why: &str) -> Result<String, AllocError>
+    ensures { λ r. ⌜ made r (λ t. Says refusal (string-bytes t)) ⌝ }
+{
     let number = refusal.number();
     match place_of(refusal) {
         Place::Whole => format!(heap, "refused {number}: {why}"),
@@ -35,44 +40,15 @@ fn refused_line(heap: Global, refusal: Refusal, why: &str) -> Result<String, All
 }
 
 // No code of these column values and data columns is opened.
-pub fn refused_code(
+pub(crate) fn refused_code(
     heap: Global,
     refusal: Refusal,
     values: &[u64],
     numbers: &[usize],
-) -> Result<String, AllocError> {
+) -> Result<String, AllocError>
+    ensures { λ r. ⌜ made r (λ t. Says refusal (string-bytes t)) ⌝ }
+{
     let why = open_reason(heap, refusal, values, numbers)?;
-    refused_line(heap, refusal, why.as_str())
-}
-
-// A word of so many columns is not taken.
-pub fn refused_word(
-    heap: Global,
-    refusal: Refusal,
-    word: u64,
-    columns: usize,
-) -> Result<String, AllocError> {
-    let why = match refusal {
-        Refusal::TooWide => format!(heap, "word {word} has a bit beyond the {columns} columns")?,
-        _ => plain_reason(heap, refusal)?,
-    };
-    refused_line(heap, refusal, why.as_str())
-}
-
-// A data word of so many bits is not taken.
-pub fn refused_data_word(
-    heap: Global,
-    refusal: Refusal,
-    word: u64,
-    bits: usize,
-) -> Result<String, AllocError> {
-    let why = match refusal {
-        Refusal::TooWide => {
-            let columns = counted_text(heap, bits, "data column", "data columns")?;
-            format!(heap, "data word {word} has a bit beyond the {columns}")?
-        }
-        _ => plain_reason(heap, refusal)?,
-    };
     refused_line(heap, refusal, why.as_str())
 }
 

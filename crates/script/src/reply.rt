@@ -1,56 +1,58 @@
 ghost use mathlib.Core.Path.{_≡_};
-ghost use mathlib.Core.List.{_++_};
-ghost use lib.Chars.{codes};
 ghost use Rattle.std.specs.Of.String.{string-bytes};
 ghost use Rattle.std.specs.Vec.{made};
-ghost use Rattle.std.specs.Written.{decimal};
-ghost use Rattle.picture.specs.Drawn.{drawn};
-ghost use Rattle.script.specs.Unfinished.{unfinished};
+ghost use Rattle.script.specs.Replies.{data-line, encode-line, opened-line, syndrome-line, unfinished-line, wide-data-word, wide-word};
 use crate::noun::counted_text;
 use crate::noun::noun_for;
+use code::Refusal;
 use picture::bits_text;
 use std::alloc::AllocError;
 use std::alloc::Global;
 
-pub fn encode_line(
+pub(crate) fn encode_line(
     heap: Global,
     word: u64,
     codeword: u64,
     columns: usize,
 ) -> Result<String, AllocError>
-    ensures { λ r. ⌜ made r (λ t. string-bytes t ≡ codes "encode " ++ (decimal word ++ (codes ": " ++ (decimal codeword ++ (codes " (columns " ++ (drawn columns codeword ++ codes ")")))))) ⌝ }
+    ensures { λ r. ⌜ made r (λ t. string-bytes t ≡ encode-line word codeword columns) ⌝ }
 {
     let bits = bits_text(heap, codeword, columns)?;
     format!(heap, "encode {word}: {codeword} (columns {bits})")
 }
 
-pub fn syndrome_line(
+pub(crate) fn syndrome_line(
     heap: Global,
     word: u64,
     syndrome: u64,
     rows: usize,
 ) -> Result<String, AllocError>
-    ensures { λ r. ⌜ made r (λ t. string-bytes t ≡ codes "syndrome " ++ (decimal word ++ (codes ": " ++ (decimal syndrome ++ (codes " (rows " ++ (drawn rows syndrome ++ codes ")")))))) ⌝ }
+    ensures { λ r. ⌜ made r (λ t. string-bytes t ≡ syndrome-line word syndrome rows) ⌝ }
 {
     let bits = bits_text(heap, syndrome, rows)?;
     format!(heap, "syndrome {word}: {syndrome} (rows {bits})")
 }
 
-pub fn data_line(heap: Global, word: u64, message: u64, count: usize) -> Result<String, AllocError>
-    ensures { λ r. ⌜ made r (λ t. string-bytes t ≡ codes "data " ++ (decimal word ++ (codes ": " ++ (decimal message ++ (codes " (bits " ++ (drawn count message ++ codes ")")))))) ⌝ }
+pub(crate) fn data_line(
+    heap: Global,
+    word: u64,
+    message: u64,
+    count: usize,
+) -> Result<String, AllocError>
+    ensures { λ r. ⌜ made r (λ t. string-bytes t ≡ data-line word message count) ⌝ }
 {
     let bits = bits_text(heap, message, count)?;
     format!(heap, "data {word}: {message} (bits {bits})")
 }
 
 // What is said of a code that was opened.
-pub fn opened_line(
+pub(crate) fn opened_line(
     heap: Global,
     columns: usize,
     data_count: usize,
     checks: usize,
 ) -> Result<String, AllocError>
-    ensures { λ r. ⌜ made r (λ t. string-bytes t ≡ codes "code of " ++ (decimal columns ++ (codes " columns: " ++ (decimal «data_count» ++ (codes " data, " ++ (decimal checks ++ codes " check")))))) ⌝ }
+    ensures { λ r. ⌜ made r (λ t. string-bytes t ≡ opened-line columns «data_count» checks) ⌝ }
 {
     format!(
         heap,
@@ -59,7 +61,7 @@ pub fn opened_line(
 }
 
 // The rows of a drawing are not as many as the check columns that its data columns leave.
-pub fn row_count_line(
+pub(crate) fn row_count_line(
     heap: Global,
     number: usize,
     rows: usize,
@@ -77,11 +79,44 @@ pub fn row_count_line(
 }
 
 // What is said of a drawing that the script leaves open.
-pub fn unfinished_line(heap: Global, since: usize) -> Result<String, AllocError>
-    ensures { λ r. ⌜ made r (λ t. string-bytes t ≡ unfinished since) ⌝ }
+pub(crate) fn unfinished_line(heap: Global, since: usize) -> Result<String, AllocError>
+    ensures { λ r. ⌜ made r (λ t. string-bytes t ≡ unfinished-line since) ⌝ }
 {
     format!(
         heap,
         "the script ends, and the drawing that is open since line {since} has no 'data'"
+    )
+}
+
+// A word with a bit beyond the columns is refused.
+pub(crate) fn wide_word_line(
+    heap: Global,
+    refusal: Refusal,
+    word: u64,
+    columns: usize,
+) -> Result<String, AllocError>
+    ensures { λ r. ⌜ made r (λ t. string-bytes t ≡ wide-word word columns refusal) ⌝ }
+{
+    let number = refusal.number();
+    format!(
+        heap,
+        "refused {number}: word {word} has a bit beyond the {columns} columns"
+    )
+}
+
+// A data word with a bit beyond the data columns is refused.
+pub(crate) fn wide_data_word_line(
+    heap: Global,
+    refusal: Refusal,
+    word: u64,
+    bits: usize,
+) -> Result<String, AllocError>
+    ensures { λ r. ⌜ made r (λ t. string-bytes t ≡ wide-data-word word bits refusal) ⌝ }
+{
+    let number = refusal.number();
+    let columns = counted_text(heap, bits, "data column", "data columns")?;
+    format!(
+        heap,
+        "refused {number}: data word {word} has a bit beyond the {columns}"
     )
 }

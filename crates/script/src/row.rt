@@ -9,7 +9,7 @@ use crate::fault::FaultFromRefused;
 use std::alloc::Global;
 
 // The digits of a drawn row, column 0 first; white space between them says nothing.
-pub fn row_bits(heap: Global, text: &str) -> Result<Vec<bool>, Fault<'static>>
+pub(crate) fn row_bits(heap: Global, text: &str) -> Result<Vec<bool>, Fault<'static>>
     ensures digits { λ r. ⌜ made r (λ v. vec-items v ≡ rowDigits (decodes (now (text .entry)))) ⌝ }
     ensures clean { λ r. ⌜ made r (λ _. stranger (decodes (now (text .entry))) ≡ None) ⌝ }
     ensures why { λ r. ⌜ refused r (λ e. Unread (decodes (now (text .entry))) e) ⌝ }

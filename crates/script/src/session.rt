@@ -1,9 +1,17 @@
 ghost use mathlib.Core.Path.{_≡_};
+ghost use mathlib.Core.List.{_∷_, []};
 ghost use Rattle.std.specs.Of.String.{string-bytes};
 ghost use Rattle.std.specs.Vec.{made, refused};
 ghost use Rattle.std.specs.declared.option.Option.the-variants.{None};
+ghost use Rattle.code.specs.Meaning.{columns-of, data-of};
 ghost use Rattle.script.specs.Ending.{ending};
 ghost use Rattle.script.specs.Moves.{Moves};
+ghost use Rattle.script.specs.Performed.{Opens, Performed};
+use crate::answer::data_answer;
+use crate::answer::encode_answer;
+use crate::answer::opened_answer;
+use crate::answer::show_answer;
+use crate::answer::syndrome_answer;
 use crate::command::Command;
 use crate::command::Stroke;
 use crate::command::read_command;
@@ -12,15 +20,8 @@ use crate::drawing::Drawing;
 use crate::fault::Fault;
 use crate::fault::FaultDisplay;
 use crate::fault::FaultFromAlloc;
-use picture::matrix_picture;
 use crate::refused::refused_code;
-use crate::refused::refused_data_word;
-use crate::refused::refused_word;
-use crate::reply::data_line;
-use crate::reply::encode_line;
-use crate::reply::opened_line;
 use crate::reply::row_count_line;
-use crate::reply::syndrome_line;
 use crate::reply::unfinished_line;
 use crate::row::row_bits;
 use code::Code;
@@ -38,7 +39,7 @@ pub struct Session {
 
 impl Session {
     pub fn new(heap: Global) -> Session
-        ensures { λ r. ⌜ r .drawing ≡ None ⌝ }
+        ensures { λ r. ⌜ (columns-of (r .code) ≡ 1 ∷ (1 ∷ [])) × (data-of (r .code) ≡ 0 ∷ []) × (r .drawing ≡ None) ⌝ }
     {
         Session {
             heap,
@@ -74,69 +75,47 @@ impl Session {
         }
     }
 
+    // Carries out a command that was read from line `number`, and gives the text that answers it.
+    pub fn perform(&mut self, number: usize, command: Command) -> Result<String, AllocError>
+        ensures done { λ r. ⌜ made r (λ t. Performed number (now (self .entry) .code) (now (self .entry) .drawing) command (now (self .exit) .code) (now (self .exit) .drawing) (string-bytes t)) ⌝ }
+        ensures same { λ r. ⌜ refused r (λ _. now (self .exit) ≡ now (self .entry)) ⌝ }
+    {
+        match command {
+            Command::Nothing => Ok(String::new(self.heap)),
+            Command::Matrix => {
+                self.drawing = Some(Drawing::new(self.heap, number));
+                Ok(String::new(self.heap))
+            }
+            Command::Open { values, numbers } => self.open(values.as_slice(), numbers.as_slice()),
+            Command::Show => show_answer(self.heap, &self.code),
+            Command::Encode(word) => encode_answer(self.heap, &self.code, word),
+            Command::Syndrome(word) => syndrome_answer(self.heap, &self.code, word),
+            Command::Data(word) => data_answer(self.heap, &self.code, word),
+        }
+    }
+
     // A line while no drawing is open.
     fn obey<'a>(&mut self, number: usize, line: &'a str) -> Result<String, Fault<'a>>
         requires { ⌜ now self .drawing ≡ None ⌝ }
         ensures moves { λ r. ⌜ Moves number (now (self .entry) .code) (now (self .entry) .drawing) (now (self .exit) .code) (now (self .exit) .drawing) ⌝ }
         ensures same { λ r. ⌜ refused r (λ _. now (self .exit) ≡ now (self .entry)) ⌝ }
     {
-        let text = match read_command(self.heap, line)? {
-            Command::Nothing => String::new(self.heap),
-            Command::Matrix => {
-                self.drawing = Some(Drawing::new(self.heap, number));
-                String::new(self.heap)
-            }
-            Command::Code { values, numbers } => self.open(values.as_slice(), numbers.as_slice())?,
-            Command::Show => self.picture()?,
-            Command::Encode(word) => self.encode(word)?,
-            Command::Syndrome(word) => self.syndrome(word)?,
-            Command::Data(word) => self.data_bits(word)?,
-        };
-        Ok(text)
+        let command = read_command(self.heap, line)?;
+        Ok(self.perform(number, command)?)
     }
 
     fn open(&mut self, values: &[u64], numbers: &[usize]) -> Result<String, AllocError>
         ensures drawing { λ r. ⌜ now (self .exit) .drawing ≡ now (self .entry) .drawing ⌝ }
+        ensures opens { λ r. ⌜ made r (λ t. Opens (now (self .entry) .code) (now (values .entry)) (now (numbers .entry)) (now (self .exit) .code) (string-bytes t)) ⌝ }
         ensures same { λ r. ⌜ refused r (λ _. now (self .exit) ≡ now (self .entry)) ⌝ }
     {
         match Code::open(values, numbers) {
             Ok(code) => {
-                let text = opened_code(self.heap, &code)?;
+                let text = opened_answer(self.heap, &code)?;
                 self.code = code;
                 Ok(text)
             }
             Err(refusal) => refused_code(self.heap, refusal, values, numbers),
-        }
-    }
-
-    fn picture(&self) -> Result<String, AllocError> {
-        let code = &self.code;
-        matrix_picture(
-            self.heap,
-            code.column_values(),
-            code.data_columns(),
-            code.check_count(),
-        )
-    }
-
-    fn encode(&self, word: u64) -> Result<String, AllocError> {
-        match self.code.encode(word) {
-            Ok(codeword) => encode_line(self.heap, word, codeword, self.code.column_count()),
-            Err(refusal) => refused_data_word(self.heap, refusal, word, self.code.data_count()),
-        }
-    }
-
-    fn syndrome(&self, word: u64) -> Result<String, AllocError> {
-        match self.code.syndrome(word) {
-            Ok(syndrome) => syndrome_line(self.heap, word, syndrome, self.code.check_count()),
-            Err(refusal) => refused_word(self.heap, refusal, word, self.code.column_count()),
-        }
-    }
-
-    fn data_bits(&self, word: u64) -> Result<String, AllocError> {
-        match self.code.data_bits(word) {
-            Ok(message) => data_line(self.heap, word, message, self.code.data_count()),
-            Err(refusal) => refused_word(self.heap, refusal, word, self.code.column_count()),
         }
     }
 
@@ -173,7 +152,7 @@ impl Session {
             Ok(code) => {
                 let checks = code.check_count();
                 if rows == checks {
-                    let text = opened_code(self.heap, &code)?;
+                    let text = opened_answer(self.heap, &code)?;
                     self.code = code;
                     self.drawing = None;
                     return Ok(text);
@@ -201,13 +180,4 @@ impl Session {
 // A line that cannot be read, by its number and what is wrong with it.
 fn fault_line(heap: Global, number: usize, fault: Fault<'_>) -> Result<String, AllocError> {
     format!(heap, "line {number}: {fault}")
-}
-
-fn opened_code(heap: Global, code: &Code) -> Result<String, AllocError> {
-    opened_line(
-        heap,
-        code.column_count(),
-        code.data_count(),
-        code.check_count(),
-    )
 }

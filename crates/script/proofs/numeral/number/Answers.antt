@@ -1,5 +1,4 @@
 use mathlib.Core.Path.{_≡_, ap, subst, sym, _∙_}
-use mathlib.Core.Bool.{true, false}
 use mathlib.Core.List.{List}
 use Prim.Native.Nat.{ℕ, _^_, _<_}
 use native.Mathlib.Omega.{arith}
@@ -9,9 +8,9 @@ use Rattle.std.specs.Reads.{Numeral, value, ReadsUnsigned}
 use Rattle.std.specs.Numbers.{Converted}
 use Rattle.std.specs.Written.{decimal}
 use Rattle.std.specs.declared.result.Result.{Result}
-use Rattle.std.specs.declared.result.Result.the-variants.{Ok, Err}
+use Rattle.std.specs.declared.result.Result.the-variants.{Ok}
 use Rattle.std.proofs.shelf.Decimals.{decimal-reads}
-use Rattle.std.proofs.shelf.Numerals.{afterPlus-none, converted-at-ok, converted-at-err, ok-from-converted, digit-at}
+use Rattle.std.proofs.shelf.Numerals.{afterPlus-none, converted-at-ok, converted-at-err, digit-at}
 use Rattle.std.proofs.shelf.Patterns.{starts-char}
 use Rattle.std.proofs.shelf.Ways.{not-from-decides}
 use Rattle.script.specs.Numerals.{Number, Reads}
