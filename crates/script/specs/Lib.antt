@@ -2,9 +2,9 @@ pub mod Numerals
 pub mod Stacked
 pub mod Untaken
 pub mod Rows
-pub mod Moves
 pub mod Nouns
 pub mod Comments
 pub mod Ending
 pub mod Replies
 pub mod Performed
+pub mod Ran

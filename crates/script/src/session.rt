@@ -1,12 +1,16 @@
 ghost use mathlib.Core.Path.{_≡_};
-ghost use mathlib.Core.List.{_∷_, []};
+ghost use mathlib.Core.List.{List, _++_, _∷_, []};
+ghost use Prim.Native.Nat.{ℕ};
+ghost use lib.Chars.{codes};
 ghost use Rattle.std.specs.Of.String.{string-bytes};
+ghost use Rattle.std.specs.Slices.{found};
 ghost use Rattle.std.specs.Vec.{made, refused};
+ghost use Rattle.std.specs.Written.{decimal};
 ghost use Rattle.std.specs.declared.option.Option.the-variants.{None};
 ghost use Rattle.code.specs.Meaning.{columns-of, data-of};
 ghost use Rattle.script.specs.Ending.{ending};
-ghost use Rattle.script.specs.Moves.{Moves};
 ghost use Rattle.script.specs.Performed.{Opens, Performed};
+ghost use Rattle.script.specs.Ran.{Closes, Did, Ran};
 use crate::answer::data_answer;
 use crate::answer::encode_answer;
 use crate::answer::opened_answer;
@@ -50,7 +54,7 @@ impl Session {
 
     // Runs a line, and gives the text that answers it: an empty one where there is nothing to say.
     pub fn run(&mut self, number: usize, line: &str) -> Result<String, AllocError>
-        ensures moves { λ r. ⌜ Moves number (now (self .entry) .code) (now (self .entry) .drawing) (now (self .exit) .code) (now (self .exit) .drawing) ⌝ }
+        ensures ran { λ r. ⌜ made r (λ t. Ran number (now (self .entry) .code) (now (self .entry) .drawing) (now (self .exit) .code) (now (self .exit) .drawing) (string-bytes t)) ⌝ }
         ensures same { λ r. ⌜ refused r (λ _. now (self .exit) ≡ now (self .entry)) ⌝ }
     {
         let answer = if self.drawing.is_some() {
@@ -97,7 +101,7 @@ impl Session {
     // A line while no drawing is open.
     fn obey<'a>(&mut self, number: usize, line: &'a str) -> Result<String, Fault<'a>>
         requires { ⌜ now self .drawing ≡ None ⌝ }
-        ensures moves { λ r. ⌜ Moves number (now (self .entry) .code) (now (self .entry) .drawing) (now (self .exit) .code) (now (self .exit) .drawing) ⌝ }
+        ensures did { λ r. ⌜ made r (λ t. Did number (now (self .entry) .code) (now (self .entry) .drawing) (now (self .exit) .code) (now (self .exit) .drawing) (string-bytes t)) ⌝ }
         ensures same { λ r. ⌜ refused r (λ _. now (self .exit) ≡ now (self .entry)) ⌝ }
     {
         let command = read_command(self.heap, line)?;
@@ -121,7 +125,7 @@ impl Session {
 
     // A line while a drawing is open.
     fn draw<'a>(&mut self, number: usize, line: &'a str) -> Result<String, Fault<'a>>
-        ensures moves { λ r. ⌜ Moves number (now (self .entry) .code) (now (self .entry) .drawing) (now (self .exit) .code) (now (self .exit) .drawing) ⌝ }
+        ensures did { λ r. ⌜ made r (λ t. Did number (now (self .entry) .code) (now (self .entry) .drawing) (now (self .exit) .code) (now (self .exit) .drawing) (string-bytes t)) ⌝ }
         ensures same { λ r. ⌜ refused r (λ _. now (self .exit) ≡ now (self .entry)) ⌝ }
     {
         let Some(drawing) = &mut self.drawing else {
@@ -141,6 +145,7 @@ impl Session {
     // Ends the drawing: it opens a code, or is refused, and the old code stays.
     fn close(&mut self, number: usize, numbers: &[usize]) -> Result<String, AllocError>
         ensures over { λ r. ⌜ made r (λ _. now (self .exit) .drawing ≡ None) ⌝ }
+        ensures closes { λ r. ⌜ made r (λ t. found (now (self .entry) .drawing) (λ d. Closes (now (self .entry) .code) d (now (numbers .entry)) (now (self .exit) .code) (string-bytes t))) ⌝ }
         ensures same { λ r. ⌜ refused r (λ _. now (self .exit) ≡ now (self .entry)) ⌝ }
     {
         let Some(drawing) = &self.drawing else {
@@ -178,6 +183,9 @@ impl Session {
 }
 
 // A line that cannot be read, by its number and what is wrong with it.
-fn fault_line(heap: Global, number: usize, fault: Fault<'_>) -> Result<String, AllocError> {
-    format!(heap, "line {number}: {fault}")
+fn fault_line(heap: Global, number: usize, fault: Fault<'_>) -> Result<String, AllocError>
+    ensures { λ r. ⌜ made r (λ t. (what : List ℕ) × (string-bytes t ≡ codes "line " ++ (decimal number ++ (codes ": " ++ what)))) ⌝ }
+{
+    let what = fault.to_string(heap)?;
+    format!(heap, "line {number}: {what}")
 }
