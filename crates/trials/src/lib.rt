@@ -3,3 +3,5 @@
 mod codes;
 #[cfg(test)]
 mod naive;
+#[cfg(test)]
+mod sessions;
