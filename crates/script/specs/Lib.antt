@@ -1,3 +1,4 @@
+pub mod Limits
 pub mod Numerals
 pub mod Stacked
 pub mod Untaken

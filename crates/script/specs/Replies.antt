@@ -1,6 +1,6 @@
 -- The lines that answer, as bytes.
 use mathlib.Core.Path.{_≡_}
-use mathlib.Core.List.{List, _++_}
+use mathlib.Core.List.{List, [], _++_}
 use Prim.Native.Nat.{ℕ}
 use lib.Chars.{codes}
 use lib.ListN.{length}
@@ -12,6 +12,7 @@ use Rattle.code.specs.Meaning.{within}
 use Rattle.code.specs.Refusals.{number-of}
 use Rattle.code.specs.Words.{gather}
 use Rattle.code.specs.declared.refusal.Refusal.{Refusal}
+use Rattle.code.specs.declared.refusal.Refusal.the-variants.{ColumnCount, OutOfBounds, OutOfBoundsAt, DataColumn, ColumnValue, NotUnits, CorrectableClash, DetectableClash, WidthsDiffer, BeyondEnd, TooWide, TooWideAt, LostCell, ShortTable, CampaignFull}
 use Rattle.picture.specs.Drawn.{drawn}
 use Rattle.picture.specs.Pictured.{pictured}
 use Rattle.script.specs.Nouns.{counted}
@@ -35,9 +36,27 @@ opened-line columns data-count checks = codes "code of " ++ (decimal columns ++ 
 abbrev pub unfinished-line : ℕ → List ℕ
 unfinished-line line = codes "the script ends, and the drawing that is open since line " ++ (decimal line ++ codes " has no 'data'")
 
--- a text that begins with the refusal's number
+-- where a refusal points to: an item of a list by its index, or a column; nowhere, for the others
+abbrev pub place : Refusal → List ℕ
+place (OutOfBoundsAt i) = codes " at index " ++ decimal i
+place (DataColumn i) = codes " at index " ++ decimal i
+place (ColumnValue j) = codes " at column " ++ decimal j
+place (TooWideAt i) = codes " at index " ++ decimal i
+place ColumnCount = []
+place OutOfBounds = []
+place NotUnits = []
+place (CorrectableClash c) = []
+place (DetectableClash c) = []
+place WidthsDiffer = []
+place BeyondEnd = []
+place TooWide = []
+place LostCell = []
+place ShortTable = []
+place CampaignFull = []
+
+-- the text names the refusal by its number, says where, and says why in words that are left open here
 abbrev pub Says : Refusal → List ℕ → Type 0
-Says e text = (why : List ℕ) × (text ≡ codes "refused " ++ (decimal (number-of e) ++ why))
+Says e text = (why : List ℕ) × (text ≡ codes "refused " ++ (decimal (number-of e) ++ (place e ++ (codes ": " ++ why))))
 
 -- a word with a bit beyond the columns, which are so many, is refused
 abbrev pub beyond-line : ℕ → List ℕ → ℕ → List ℕ → List ℕ

@@ -4,6 +4,7 @@ ghost use Prim.Native.Nat.{ℕ, _+_, _^_, _<_, _≤_};
 ghost use lib.ListN.{length};
 ghost use Rattle.std.specs.Of.Vec.{vec-items};
 ghost use Rattle.std.specs.Vec.{made, refused};
+ghost use Rattle.script.specs.Limits.{most-rows};
 ghost use Rattle.script.specs.Stacked.{AllBelow, Stacks, stacked};
 ghost use Rattle.script.specs.Untaken.{Untaken};
 use crate::fault::Fault;
@@ -11,7 +12,7 @@ use crate::fault::FaultFromAlloc;
 use std::alloc::AllocError;
 use std::alloc::Global;
 
-// With at most 63 rows a column value fits 64 bits.
+// With so many rows at most, a column value fits 64 bits.
 pub(crate) const MOST_ROWS: usize = 63;
 
 // A matrix that is drawn row by row, the top row first.
@@ -24,7 +25,7 @@ pub struct Drawing {
     rows: usize,
     // the value of each column in these rows
     values: Vec<u64>,
-    ghost bounded: { (rows ≤ 63) × AllBelow (2 ^ rows) (vec-items values) },
+    ghost bounded: { (rows ≤ most-rows) × AllBelow (2 ^ rows) (vec-items values) },
 }
 
 impl Drawing {
@@ -101,7 +102,7 @@ impl Drawing {
 
 // The column values with row `i` under the rows above it.
 fn stack(heap: Global, i: usize, above: &[u64], row: &[bool]) -> Result<Vec<u64>, AllocError>
-    requires room { ⌜ i < 63 ⌝ }
+    requires room { ⌜ i < most-rows ⌝ }
     requires wide { ⌜ length (now above) ≡ length (now row) ⌝ }
     requires low { ⌜ AllBelow (2 ^ i) (now above) ⌝ }
     ensures items { λ r. ⌜ made r (λ v. vec-items v ≡ stacked i (now (above .entry)) (now (row .entry))) ⌝ }

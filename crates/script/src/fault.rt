@@ -1,5 +1,6 @@
 ghost use mathlib.Core.Path.{_≡_};
 ghost use Rattle.script.specs.declared.fault.Fault.the-variants.{Memory};
+use crate::drawing::MOST_ROWS;
 use crate::noun::noun_for;
 use std::alloc::AllocError;
 use std::alloc::Refused;
@@ -55,7 +56,10 @@ pub impl fmt::Display for Fault<'_> as FaultDisplay {
                     "the row has {drawn} {columns}, the rows above have {above}"
                 )
             }
-            Fault::TooManyRows => f.write_str("a drawing has at most 63 rows"),
+            Fault::TooManyRows => {
+                let most = MOST_ROWS;
+                write!(f, "a drawing has at most {most} rows")
+            }
             Fault::InDrawing(since) => {
                 write!(
                     f,

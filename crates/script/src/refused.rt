@@ -1,6 +1,7 @@
+ghost use mathlib.Core.Path.{_≡_};
 ghost use Rattle.std.specs.Of.String.{string-bytes};
 ghost use Rattle.std.specs.Vec.{made};
-ghost use Rattle.script.specs.Replies.{Says};
+ghost use Rattle.script.specs.Replies.{Says, place};
 use crate::noun::counted_text;
 use code::Clash;
 use code::LEAST_COLUMNS;
@@ -10,20 +11,26 @@ use code::Refusal;
 use std::alloc::AllocError;
 use std::alloc::Global;
 
-// Where the refusal points to.
-enum Place {
-    Whole,
-    Index(usize),
-    Column(usize),
-}
-
-fn place_of(refusal: Refusal) -> Place {
+// Where a refusal points to: an item of a list by its index, or a column.
+fn place_text(heap: Global, refusal: Refusal) -> Result<String, AllocError>
+    ensures { λ r. ⌜ made r (λ t. string-bytes t ≡ place refusal) ⌝ }
+{
     match refusal {
-        Refusal::OutOfBoundsAt(i) | Refusal::DataColumn(i) | Refusal::TooWideAt(i) => Place::Index(
-            i,
-        ),
-        Refusal::ColumnValue(j) => Place::Column(j),
-        _ => Place::Whole,
+        Refusal::OutOfBoundsAt(i) | Refusal::DataColumn(i) | Refusal::TooWideAt(i) => {
+            format!(heap, " at index {i}")
+        }
+        Refusal::ColumnValue(j) => format!(heap, " at column {j}"),
+        Refusal::ColumnCount
+        | Refusal::OutOfBounds
+        | Refusal::NotUnits
+        | Refusal::CorrectableClash(_)
+        | Refusal::DetectableClash(_)
+        | Refusal::WidthsDiffer
+        | Refusal::BeyondEnd
+        | Refusal::TooWide
+        | Refusal::LostCell
+        | Refusal::ShortTable
+        | Refusal::CampaignFull => Ok(String::new(heap)),
     }
 }
 
@@ -32,11 +39,8 @@ fn refused_line(heap: Global, refusal: Refusal, why: &str) -> Result<String, All
     ensures { λ r. ⌜ made r (λ t. Says refusal (string-bytes t)) ⌝ }
 {
     let number = refusal.number();
-    match place_of(refusal) {
-        Place::Whole => format!(heap, "refused {number}: {why}"),
-        Place::Index(i) => format!(heap, "refused {number} at index {i}: {why}"),
-        Place::Column(j) => format!(heap, "refused {number} at column {j}: {why}"),
-    }
+    let place = place_text(heap, refusal)?;
+    format!(heap, "refused {number}{place}: {why}")
 }
 
 // No code of these column values and data columns is opened.
