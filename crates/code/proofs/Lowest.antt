@@ -15,10 +15,10 @@ use Rattle.code.proofs.Bits.{two-cases, odd-lt, half-below}
 use Rattle.code.proofs.Combining.{combine-zero, combine-xor, combine-pow}
 
 -- w is odd after as many halvings as it has trailing zeros
-abbrev Split : ℕ → ℕ → ℕ → Type 0
+abbrev pub Split : ℕ → ℕ → ℕ → Type 0
 Split w j q = w ≡ (q * 2 + 1) * 2 ^ j
 
-split-at : (k w : ℕ) → 0 < w → w < 2 ^ k → (q : ℕ) × Split w (trailingZeros k w) q
+pub split-at : (k w : ℕ) → 0 < w → w < 2 ^ k → (q : ℕ) × Split w (trailingZeros k w) q
 unfolding trailingZeros
 split-at zero w p h = absurd (omega arith)
 split-at (suc k) w p h =
@@ -72,7 +72,7 @@ rejoined q j w e =
 lowest-le : (q j w : ℕ) → Split w j q → 2 ^ j ≤ w
 lowest-le q j w e = let a = add-mul (q * 2) 1 (2 ^ j) in let o = one-mul (2 ^ j) in omega arith
 
-below-exponent : (j n w : ℕ) → 2 ^ j ≤ w → w < 2 ^ n → j < n
+pub below-exponent : (j n w : ℕ) → 2 ^ j ≤ w → w < 2 ^ n → j < n
 below-exponent j n w l h = elim (cases-lt j n) [ inl a ↦ a | inr b ↦ (let m = pow-mono {i = n} {j = j} b in absurd (omega arith)) ]
 
 -- the lowest one stands below the width

@@ -1,0 +1,106 @@
+ghost use mathlib.Core.Path.{_≡_};
+ghost use mathlib.Core.List.{[]};
+ghost use Prim.Native.Nat.{_≤_};
+ghost use denote.Ref.{now};
+ghost use lib.ListN.{length};
+ghost use Rattle.std.specs.Results.{Cases};
+ghost use Rattle.std.specs.declared.option.Option.the-variants.{None, Some};
+ghost use Rattle.code.specs.Limits.{least-columns, most-columns};
+ghost use Rattle.listings.specs.Lawful.{Patterns};
+ghost use Rattle.listings.specs.Limits.{most-patterns};
+ghost use Rattle.classes.specs.Opening.{listed-refusal};
+use crate::class::ErrorClass;
+use crate::check::check_mask;
+use code::LEAST_COLUMNS;
+use code::MOST_COLUMNS;
+use code::Refusal;
+use listings::MOST_PATTERNS;
+
+// The masks of a lent slice, in their order. Of every listed class it is known that each of its masks is a
+// pattern, so no question tests that again.
+#[derive(Clone, Copy)]
+pub struct Listed<'a> {
+    width: usize,
+    masks: &'a [u64],
+    ghost low: { least-columns ≤ width },
+    ghost high: { width ≤ most-columns },
+    ghost few: { length (now masks) ≤ most-patterns },
+    ghost each: { Patterns width (now masks) },
+}
+
+pub impl<'a> ErrorClass for Listed<'a> as ListedClass {
+    ghost wide = { λ s. s .width };
+
+    ghost patterns = { λ s. now (s .masks) };
+
+    ghost lawful = { λ s. record { low = s .low; high = s .high; few = s .few; each = s .each } };
+
+    fn width(&self) -> usize {
+        self.width
+    }
+
+    fn count(&self) -> usize {
+        self.masks.len()
+    }
+
+    fn pattern_at(&self, i: usize) -> Result<u64, Refusal> {
+        if i < self.masks.len() {
+            Ok(self.masks[i])
+        } else {
+            Err(Refusal::BeyondEnd)
+        }
+    }
+
+    fn belongs(&self, mask: u64) -> bool {
+        for (_i, listed) in self.masks.iter().enumerate() {
+            if *listed == mask {
+                return true;
+            }
+        }
+        false
+    }
+}
+
+// What opening a listed class refuses, if anything.
+fn check_masks(width: usize, masks: &[u64]) -> Result<(), Refusal>
+    ensures { λ r. ⌜ Cases r (λ _. listed-refusal width (now (masks .entry)) ≡ None) (λ e. listed-refusal width (now (masks .entry)) ≡ Some e) ⌝ }
+{
+    if width < LEAST_COLUMNS || width > MOST_COLUMNS {
+        return Err(Refusal::OutOfBounds);
+    }
+    if masks.len() > MOST_PATTERNS {
+        return Err(Refusal::OutOfBounds);
+    }
+    for (i, mask) in masks.iter().enumerate() {
+        check_mask(width, i, *mask)?;
+    }
+    Ok(())
+}
+
+impl<'a> Listed<'a> {
+    // Makes this the class of the masks, unless the opening is refused; then it stays what it was.
+    pub fn open(&mut self, width: usize, masks: &'a [u64]) -> Result<(), Refusal>
+        ensures opened { λ r. ⌜ Cases r (λ _. (listed-refusal width (now (masks .entry)) ≡ None) × (now (self .exit) .width ≡ width) × (now (now (self .exit) .masks) ≡ now (masks .entry))) (λ e. (listed-refusal width (now (masks .entry)) ≡ Some e) × (now (self .exit) .width ≡ now (self .entry) .width) × (now (now (self .exit) .masks) ≡ now (now (self .entry) .masks))) ⌝ }
+    {
+        check_masks(width, masks)?;
+        *self = Listed::over(width, masks);
+        Ok(())
+    }
+
+    // The class of masks that were checked.
+    fn over(width: usize, masks: &'a [u64]) -> Listed<'a>
+        requires { ⌜ listed-refusal width (now masks) ≡ None ⌝ }
+        ensures { λ r. ⌜ (r .width ≡ width) × (now (r .masks) ≡ now (masks .entry)) ⌝ }
+    {
+        Listed { width, masks }
+    }
+}
+
+// A fresh listed class has two columns and no patterns.
+pub impl<'a> Default for Listed<'a> as ListedDefault {
+    ghost isDefault = { λ c. (c .width ≡ 2) × (now (c .masks) ≡ []) };
+
+    fn default() -> Listed<'a> {
+        Listed { width: LEAST_COLUMNS, masks: &[] }
+    }
+}
