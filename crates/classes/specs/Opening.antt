@@ -1,5 +1,5 @@
 -- What opening a class of n bits refuses: the width first, then a count, then the masks or items in their order.
-use Prim.Native.Nat.{ℕ, suc, _^_, _<_}
+use Prim.Native.Nat.{ℕ, _+_, _^_}
 use mathlib.Core.Path.{_≡_}
 use mathlib.Core.Bool.{Bool, _&&_}
 use mathlib.Core.List.{List, [], _∷_}
@@ -41,7 +41,7 @@ or-else (Some e) later = Some e
 -- the first refusal of elements, the first of them at the index i
 abbrev pub first-refusal : {X : Type 0} → (ℕ → X → Option Refusal) → ℕ → List X → Option Refusal
 first-refusal refusal i [] = None
-first-refusal refusal i (x ∷ xs) = or-else (refusal i x) (first-refusal refusal (suc i) xs)
+first-refusal refusal i (x ∷ xs) = or-else (refusal i x) (first-refusal refusal (i + 1) xs)
 
 abbrev pub listed-refusal : ℕ → List ℕ → Option Refusal
 listed-refusal n masks = unless (good-width n) OutOfBounds (unless (leb (length masks) most-patterns) OutOfBounds (first-refusal (mask-refusal n) 0 masks))

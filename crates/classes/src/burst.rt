@@ -43,7 +43,8 @@ pub(crate) fn is_run(width: usize, size: usize, mask: u64) -> bool
     requires { ⌜ width ≤ most-columns ⌝ ∗ ⌜ 1 ≤ size ⌝ ∗ ⌜ size ≤ width ⌝ }
     ensures { λ r. ⌜ r ≡ among (runs width size) mask ⌝ }
 {
-    if mask == 0 || mask >= power(width) {
+    let weight = power(width);
+    if mask == 0 || mask >= weight {
         return false;
     }
     mask >> mask.trailing_zeros() == power(size) - 1

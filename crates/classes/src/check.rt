@@ -25,6 +25,17 @@ pub(crate) fn check_mask(width: usize, i: usize, mask: u64) -> Result<(), Refusa
     Ok(())
 }
 
+// What opening refuses of the masks: the first that is no pattern, with its index.
+pub(crate) fn check_masks(width: usize, masks: &[u64]) -> Result<(), Refusal>
+    requires { ⌜ width ≤ most-columns ⌝ }
+    ensures { λ r. ⌜ Cases r (λ _. first-refusal (mask-refusal width) 0 (now (masks .entry)) ≡ None) (λ e. first-refusal (mask-refusal width) 0 (now (masks .entry)) ≡ Some e) ⌝ }
+{
+    for (i, mask) in masks.iter().enumerate() {
+        check_mask(width, i, *mask)?;
+    }
+    Ok(())
+}
+
 // What opening refuses of the item at an index.
 pub(crate) fn check_item(width: usize, i: usize, item: Item) -> Result<(), Refusal>
     requires { ⌜ width ≤ most-columns ⌝ }

@@ -1,5 +1,6 @@
 ghost use mathlib.Core.Path.{_≡_};
-ghost use lib.ListN.{length};
+ghost use Prim.Native.Nat.{_<_};
+ghost use lib.ListN.{length, getD};
 ghost use Rattle.classes.specs.Duties.{detectable, Detects};
 use crate::class::ErrorClass;
 
@@ -11,11 +12,20 @@ pub fn detectable_count<C: ErrorClass, D: ErrorClass>(first: &C, second: &D) -> 
 {
     let mut count = 0;
     for i in 0..second.count() {
-        if let Ok(pattern) = second.pattern_at(i) {
-            if !first.belongs(pattern) {
-                count += 1;
-            }
+        if !first.belongs(pattern(second, i)) {
+            count += 1;
         }
     }
     count
+}
+
+// The pattern at a number below the count.
+fn pattern<C: ErrorClass>(class: &C, i: usize) -> u64
+    requires { ⌜ i < length (C·ErrorClass .patterns (now class)) ⌝ }
+    ensures { λ r. ⌜ r ≡ getD (C·ErrorClass .patterns (now (class .entry))) i 0 ⌝ }
+{
+    match class.pattern_at(i) {
+        Ok(pattern) => pattern,
+        Err(_) => 0,
+    }
 }

@@ -97,7 +97,8 @@ pub(crate) fn any_holds(width: usize, items: &[Item], mask: u64) -> bool
 // The items at the front of an array that has room for them.
 pub(crate) fn kept(items: &[Item]) -> [Item; MOST_ITEMS]
     requires { ⌜ length (now items) ≤ most-items ⌝ }
-    ensures { λ r. ⌜ take (length (now (items .entry))) r ≡ now (items .entry) ⌝ }
+    ensures sized { λ r. ⌜ length r ≡ most-items ⌝ }
+    ensures front { λ r. ⌜ take (length (now (items .entry))) r ≡ now (items .entry) ⌝ }
 {
     let mut all = [Item::Mask(0); MOST_ITEMS];
     for (i, item) in items.iter().enumerate() {

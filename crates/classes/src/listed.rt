@@ -9,8 +9,8 @@ ghost use Rattle.code.specs.Limits.{least-columns, most-columns};
 ghost use Rattle.listings.specs.Lawful.{Patterns};
 ghost use Rattle.listings.specs.Limits.{most-patterns};
 ghost use Rattle.classes.specs.Opening.{listed-refusal};
+use crate::check::check_masks;
 use crate::class::ErrorClass;
-use crate::check::check_mask;
 use code::LEAST_COLUMNS;
 use code::MOST_COLUMNS;
 use code::Refusal;
@@ -61,38 +61,20 @@ pub impl<'a> ErrorClass for Listed<'a> as ListedClass {
     }
 }
 
-// What opening a listed class refuses, if anything.
-fn check_masks(width: usize, masks: &[u64]) -> Result<(), Refusal>
-    ensures { λ r. ⌜ Cases r (λ _. listed-refusal width (now (masks .entry)) ≡ None) (λ e. listed-refusal width (now (masks .entry)) ≡ Some e) ⌝ }
-{
-    if width < LEAST_COLUMNS || width > MOST_COLUMNS {
-        return Err(Refusal::OutOfBounds);
-    }
-    if masks.len() > MOST_PATTERNS {
-        return Err(Refusal::OutOfBounds);
-    }
-    for (i, mask) in masks.iter().enumerate() {
-        check_mask(width, i, *mask)?;
-    }
-    Ok(())
-}
-
 impl<'a> Listed<'a> {
     // Makes this the class of the masks, unless the opening is refused; then it stays what it was.
     pub fn open(&mut self, width: usize, masks: &'a [u64]) -> Result<(), Refusal>
-        ensures opened { λ r. ⌜ Cases r (λ _. (listed-refusal width (now (masks .entry)) ≡ None) × (now (self .exit) .width ≡ width) × (now (now (self .exit) .masks) ≡ now (masks .entry))) (λ e. (listed-refusal width (now (masks .entry)) ≡ Some e) × (now (self .exit) .width ≡ now (self .entry) .width) × (now (now (self .exit) .masks) ≡ now (now (self .entry) .masks))) ⌝ }
+        ensures { λ r. ⌜ Cases r (λ _. (listed-refusal width (now (masks .entry)) ≡ None) × (now (self .exit) .width ≡ width) × (now (now (self .exit) .masks) ≡ now (masks .entry))) (λ e. (listed-refusal width (now (masks .entry)) ≡ Some e) × (now (self .exit) .width ≡ now (self .entry) .width) × (now (now (self .exit) .masks) ≡ now (now (self .entry) .masks))) ⌝ }
     {
+        if width < LEAST_COLUMNS || width > MOST_COLUMNS {
+            return Err(Refusal::OutOfBounds);
+        }
+        if masks.len() > MOST_PATTERNS {
+            return Err(Refusal::OutOfBounds);
+        }
         check_masks(width, masks)?;
-        *self = Listed::over(width, masks);
+        *self = Listed { width, masks };
         Ok(())
-    }
-
-    // The class of masks that were checked.
-    fn over(width: usize, masks: &'a [u64]) -> Listed<'a>
-        requires { ⌜ listed-refusal width (now masks) ≡ None ⌝ }
-        ensures { λ r. ⌜ (r .width ≡ width) × (now (r .masks) ≡ now (masks .entry)) ⌝ }
-    {
-        Listed { width, masks }
     }
 }
 
@@ -101,6 +83,9 @@ pub impl<'a> Default for Listed<'a> as ListedDefault {
     ghost isDefault = { λ c. (c .width ≡ 2) × (now (c .masks) ≡ []) };
 
     fn default() -> Listed<'a> {
-        Listed { width: LEAST_COLUMNS, masks: &[] }
+        Listed {
+            width: LEAST_COLUMNS,
+            masks: &[],
+        }
     }
 }

@@ -151,7 +151,7 @@ step n (suc t) c i o h l u =
     let v : i < choose (suc c) (suc t) = subst (λ x. i < choose x (suc t)) (add-one c) u in
     record {
       less = subst (λ x. i - choose c (suc t) < choose c x) (sym e) (let g : i - choose c (suc t) < choose c t = omega arith in g);
-      word = subst (λ x. getD (random n (suc t)) i 0 ≡ getD (random c x) (i - choose c (suc t)) 0 + 2 ^ c) (sym e) (top-taken n t c i h l v)
+      word = subst (λ x. getD (random n (suc t)) i 0 ≡ getD (random c x) (i - choose c (suc t)) 0 + 2 ^ c) (sym e) (top-taken n t c i h l v);
     }
 
 pub word-below : (n t i m : ℕ) → n ≤ m → i < choose n t → getD (random n t) i 0 < 2 ^ m

@@ -6,6 +6,7 @@ pub const MOST_PATTERNS: usize = 1_000_000;
 pub const MOST_ONES: usize = 3;
 // A burst strikes so many neighbouring columns, from the least to the most.
 pub const LEAST_RUN: usize = 2;
+
 pub const MOST_RUN: usize = 8;
 // So many items a mixed class has at most.
 pub const MOST_ITEMS: usize = 8;

@@ -11,6 +11,10 @@ pub impl Default for Mixed as MixedDefault {
     ghost isDefault = { λ c. (width-of c ≡ 2) × (items-of c ≡ []) };
 
     fn default() -> Self {
-        Mixed { width: LEAST_COLUMNS, items: [Item::Mask(0); MOST_ITEMS], size: 0 }
+        Mixed {
+            width: LEAST_COLUMNS,
+            items: [Item::Mask(0); MOST_ITEMS],
+            size: 0,
+        }
     }
 }

@@ -23,7 +23,11 @@ impl Mixed {
             return Err(Refusal::OutOfBounds);
         }
         check_items(width, items)?;
-        Ok(Mixed { width, items: kept(items), size: items.len() })
+        Ok(Mixed {
+            width,
+            items: kept(items),
+            size: items.len(),
+        })
     }
 
     // The items, in the order of their patterns.
@@ -43,6 +47,10 @@ impl Mixed {
         check_item(self.width, self.size, item)?;
         let mut items = self.items;
         items[self.size] = item;
-        Ok(Mixed { width: self.width, items, size: self.size + 1 })
+        Ok(Mixed {
+            width: self.width,
+            items,
+            size: self.size + 1,
+        })
     }
 }

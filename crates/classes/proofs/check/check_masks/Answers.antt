@@ -1,0 +1,16 @@
+use mathlib.Core.Path.{sym}
+use Rattle.std.proofs.shelf.Results.{err-from-errBy}
+use Rattle.classes.specs.Opening.{mask-refusal}
+use Rattle.classes.proofs.Refusing.{refused-here, passed-here, passed-all}
+use Rattle.classes.proofs.check.check_masks.Needs as need
+
+pub returns-in-Break-check-mask : need.returns-in-Break-check-mask
+returns-in-Break-check-mask c =
+    let p = err-from-errBy (c .from-residual .result) (c .from-residual .ensures .1) in
+    rw (p .1, p .2) (refused-here (mask-refusal (c .args .width)) (c .args .masks .now) (c .loop-i .i) _ _ _ (c .loop-i-test .taken) (c .in-Break-check-mask .ensures tt) (c .loop-i .inv))
+
+pub loop-i-again : need.loop-i-again
+loop-i-again c = passed-here (mask-refusal (c .args .width)) (c .args .masks .now) (c .loop-i .i) _ _ (c .loop-i-test .taken) (c .in-Continue-check-mask .ensures tt) (c .loop-i .inv)
+
+pub returns : need.returns
+returns c = passed-all (mask-refusal (c .args .width)) (c .args .masks .now) (c .loop-i .i) _ (c .loop-i-test .left) (c .loop-i .inv)
