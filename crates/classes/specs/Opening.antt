@@ -1,8 +1,9 @@
 -- What opening a class of n bits refuses: the width first, then a count, then the masks or items in their order.
-use Prim.Native.Nat.{ℕ, _+_, _^_}
+use Prim.Native.Nat.{ℕ, _+_, _^_, _<_, _≤_}
 use mathlib.Core.Path.{_≡_}
 use mathlib.Core.Bool.{Bool, _&&_}
 use mathlib.Core.List.{List, [], _∷_}
+use mathlib.Core.Logic.{_⊎_}
 use lib.Dec.{ltb, leb}
 use lib.ListN.{length, getD}
 use Rattle.std.specs.declared.option.Option.{Option}
@@ -48,3 +49,18 @@ listed-refusal n masks = unless (good-width n) OutOfBounds (unless (leb (length 
 
 abbrev pub mixed-refusal : ℕ → List Item → Option Refusal
 mixed-refusal n items = unless (good-width n) OutOfBounds (unless (leb (length items) most-items) OutOfBounds (first-refusal (item-refusal n) 0 items))
+
+-- ---- the same in words
+
+-- the width and the count of elements are in their bounds
+abbrev pub Fit : ℕ → ℕ → ℕ → Type 0
+Fit n count most = (least-columns ≤ n) × (n ≤ most-columns) × (count ≤ most)
+
+-- the element at some index is refused with e, and none before it is refused
+abbrev pub FirstRefused : {X : Type 0} → (ℕ → X → Option Refusal) → List X → Refusal → Type 0
+FirstRefused {X} refusal xs e = (i : ℕ) × (i < length xs) × ((d : X) → refusal i (getD xs i d) ≡ Some e) × ((j : ℕ) (d : X) → j < i → refusal j (getD xs j d) ≡ None)
+
+-- what an opening with at most `most` elements refuses: 2 with no index where the width or the count is out of bounds, else what its first refused element says; nothing, only where each element passes
+abbrev pub Tells : {X : Type 0} → ℕ → ℕ → (ℕ → X → Option Refusal) → List X → Option Refusal → Type 0
+Tells {X} n most refusal xs None = Fit n (length xs) most × ((i : ℕ) (d : X) → i < length xs → refusal i (getD xs i d) ≡ None)
+Tells n most refusal xs (Some e) = ((Fit n (length xs) most → ⊥) × (e ≡ OutOfBounds)) ⊎ (Fit n (length xs) most × FirstRefused refusal xs e)

@@ -8,7 +8,7 @@ ghost use Rattle.std.specs.declared.option.Option.the-variants.{None, Some};
 ghost use Rattle.code.specs.Limits.{least-columns, most-columns};
 ghost use Rattle.listings.specs.Lawful.{Patterns};
 ghost use Rattle.listings.specs.Limits.{most-patterns};
-ghost use Rattle.classes.specs.Opening.{listed-refusal};
+ghost use Rattle.classes.specs.Opening.{Tells, listed-refusal, mask-refusal};
 use crate::check::check_masks;
 use crate::class::ErrorClass;
 use code::LEAST_COLUMNS;
@@ -64,7 +64,8 @@ pub impl<'a> ErrorClass for Listed<'a> as ListedClass {
 impl<'a> Listed<'a> {
     // Makes this the class of the masks, unless the opening is refused; then it stays what it was.
     pub fn open(&mut self, width: usize, masks: &'a [u64]) -> Result<(), Refusal>
-        ensures { λ r. ⌜ Cases r (λ _. (listed-refusal width (now (masks .entry)) ≡ None) × (now (self .exit) .width ≡ width) × (now (now (self .exit) .masks) ≡ now (masks .entry))) (λ e. (listed-refusal width (now (masks .entry)) ≡ Some e) × (now (self .exit) .width ≡ now (self .entry) .width) × (now (now (self .exit) .masks) ≡ now (now (self .entry) .masks))) ⌝ }
+        ensures opened { λ r. ⌜ Cases r (λ _. (listed-refusal width (now (masks .entry)) ≡ None) × (now (self .exit) .width ≡ width) × (now (now (self .exit) .masks) ≡ now (masks .entry))) (λ e. (listed-refusal width (now (masks .entry)) ≡ Some e) × (now (self .exit) ≡ now (self .entry))) ⌝ }
+        ensures tells { λ _. ⌜ Tells width most-patterns (mask-refusal width) (now (masks .entry)) (listed-refusal width (now (masks .entry))) ⌝ }
     {
         if width < LEAST_COLUMNS || width > MOST_COLUMNS {
             return Err(Refusal::OutOfBounds);

@@ -1,6 +1,8 @@
 ghost use mathlib.Core.Path.{_≡_};
 ghost use mathlib.Core.List.{[], _∷_, _++_};
+ghost use Rattle.listings.specs.Limits.{most-items};
 ghost use Rattle.classes.specs.Meaning.{MixedOpened, items-of, width-of};
+ghost use Rattle.classes.specs.Opening.{Tells, item-refusal, mixed-refusal};
 use crate::check::check_item;
 use crate::check::check_items;
 use crate::items::kept;
@@ -14,7 +16,8 @@ use listings::MOST_ITEMS;
 impl Mixed {
     // The class of the items.
     pub fn open(width: usize, items: &[Item]) -> Result<Mixed, Refusal>
-        ensures { λ r. ⌜ MixedOpened width (now (items .entry)) r ⌝ }
+        ensures opened { λ r. ⌜ MixedOpened width (now (items .entry)) r ⌝ }
+        ensures tells { λ _. ⌜ Tells width most-items (item-refusal width) (now (items .entry)) (mixed-refusal width (now (items .entry))) ⌝ }
     {
         if width < LEAST_COLUMNS || width > MOST_COLUMNS {
             return Err(Refusal::OutOfBounds);
