@@ -2,6 +2,10 @@
 #[cfg(test)]
 mod codes;
 #[cfg(test)]
+mod enumerated;
+#[cfg(test)]
+mod errors;
+#[cfg(test)]
 mod naive;
 #[cfg(test)]
 mod sessions;
