@@ -11,8 +11,8 @@ use crate::burst::is_run;
 use crate::burst::run_at;
 use crate::burst::run_count;
 use crate::random::has_ones;
-use crate::rank::binomial;
 use crate::rank::word_at;
+use crate::rank::word_count;
 use code::Refusal;
 use listings::Item;
 use listings::MOST_ITEMS;
@@ -23,7 +23,7 @@ fn item_count(width: usize, item: Item) -> usize
     ensures { λ r. ⌜ r ≡ length (listing width item) ⌝ }
 {
     match item {
-        Item::Random(ones) => binomial(width, ones),
+        Item::Random(ones) => word_count(width, ones),
         Item::Burst(size) => run_count(width, size),
         Item::Mask(_) => 1,
     }

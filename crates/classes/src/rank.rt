@@ -1,13 +1,21 @@
 ghost use mathlib.Core.Path.{_≡_};
 ghost use Prim.Native.Nat.{ℕ, _+_, _<_, _≤_};
-ghost use lib.ListN.{getD};
+ghost use lib.ListN.{length, getD};
 ghost use Rattle.code.specs.Limits.{most-columns};
 ghost use Rattle.listings.specs.Limits.{most-ones};
 ghost use Rattle.listings.specs.Listings.{random, choose};
 use crate::words::power;
 
+// How many words of `width` bits have `ones` ones.
+pub(crate) fn word_count(width: usize, ones: usize) -> usize
+    requires { ⌜ width ≤ most-columns ⌝ ∗ ⌜ ones ≤ most-ones ⌝ }
+    ensures { λ r. ⌜ r ≡ length (random width ones) ⌝ }
+{
+    binomial(width, ones)
+}
+
 // How many ways there are to choose t of n columns.
-pub(crate) fn binomial(n: usize, t: usize) -> usize
+fn binomial(n: usize, t: usize) -> usize
     requires { ⌜ n ≤ most-columns ⌝ ∗ ⌜ t ≤ most-ones ⌝ }
     ensures { λ r. ⌜ r ≡ choose n t ⌝ }
 {
@@ -45,7 +53,7 @@ fn top_column(top: usize, t: usize, rest: usize) -> usize
 
 // The word at the number i among the words of `width` bits with `ones` ones, rising.
 pub(crate) fn word_at(width: usize, ones: usize, i: usize) -> u64
-    requires { ⌜ width ≤ most-columns ⌝ ∗ ⌜ ones ≤ most-ones ⌝ ∗ ⌜ i < choose width ones ⌝ }
+    requires { ⌜ width ≤ most-columns ⌝ ∗ ⌜ ones ≤ most-ones ⌝ ∗ ⌜ i < length (random width ones) ⌝ }
     ensures { λ r. ⌜ r ≡ getD (random width ones) i 0 ⌝ }
 {
     let mut word = 0;

@@ -154,12 +154,7 @@ step n (suc t) c i o h l u =
       word = subst (λ x. getD (random n (suc t)) i 0 ≡ getD (random c x) (i - choose c (suc t)) 0 + 2 ^ c) (sym e) (top-taken n t c i h l v);
     }
 
-pub word-below : (n t i m : ℕ) → n ≤ m → i < choose n t → getD (random n t) i 0 < 2 ^ m
+pub word-below : (n t i m : ℕ) → n ≤ m → i < length (random n t) → getD (random n t) i 0 < 2 ^ m
 word-below n t i m h l =
-    let e = random-length n t in
-    let r = random-only n t (getD (random n t) i 0) (among-at (random n t) i (omega arith)) in
+    let r = random-only n t (getD (random n t) i 0) (among-at (random n t) i l) in
     let p = pow-mono {i = n} {j = m} h in omega (arith, r .0)
-
-pub no-ones-left : (n i : ℕ) → i < choose n 0 → getD (random n 0) i 0 ≡ 0
-no-ones-left n zero h = refl
-no-ones-left n (suc i) h = absurd (omega arith)

@@ -3,8 +3,8 @@ ghost use Rattle.classes.specs.Meaning.{words-of};
 use crate::class::ErrorClass;
 use crate::random::Random;
 use crate::random::has_ones;
-use crate::rank::binomial;
 use crate::rank::word_at;
+use crate::rank::word_count;
 use code::Refusal;
 
 pub impl ErrorClass for Random as RandomClass {
@@ -19,7 +19,7 @@ pub impl ErrorClass for Random as RandomClass {
     }
 
     fn count(&self) -> usize {
-        binomial(self.width, self.ones)
+        word_count(self.width, self.ones)
     }
 
     fn pattern_at(&self, i: usize) -> Result<u64, Refusal> {

@@ -4,8 +4,11 @@ use native.Mathlib.Omega.{arith}
 use lib.ListN.{getD}
 use Rattle.code.specs.Limits.{most-columns}
 use Rattle.listings.specs.Listings.{random, choose}
-use Rattle.listings.proofs.RandomWords.{step, word-below, no-ones-left}
+use Rattle.listings.proofs.RandomWords.{step, random-length, word-below}
 use Rattle.classes.proofs.rank.word_at.Needs as need
+
+pub loop-left-holds : need.loop-left-holds
+loop-left-holds c = let e = random-length (c .args .width) (c .args .ones) in (omega arith, omega arith, omega arith, omega arith)
 
 pub add-word : need.add-word
 add-word c =
