@@ -1,15 +1,14 @@
 -- The detectable patterns: listed by the second class and not by the first.
-use Prim.Native.Nat.{ℕ, _+_, _<_, _≤_}
-use mathlib.Core.Path.{_≡_, refl, sym, ap, ap₂, _∙_, subst}
-use mathlib.Core.Bool.{Bool, true, false, cond, not, _||_}
+use Prim.Native.Nat.{ℕ, _+_, _<_}
+use mathlib.Core.Path.{_≡_, sym, ap, ap₂, _∙_, subst}
+use mathlib.Core.Bool.{Bool, true, cond, not, _||_}
 use mathlib.Core.List.{List, [], _∷_}
 use mathlib.Core.Logic.{inl, inr}
-use native.Mathlib.Omega.{arith}
 use lib.Dec.{eqb}
 use lib.ListN.{length, getD, take}
 use Rattle.std.specs.shelf.Lists.{kept-by}
 use Rattle.std.proofs.shelf.Filters.{length-kept-by-more}
-use Rattle.std.proofs.shelf.Tests.{cases-bool, eq-eqb, eqb-true, false≢true, not-from-false, not-true, or-cases, or-left, or-right}
+use Rattle.std.proofs.shelf.Tests.{cases-bool, eqb-true, false≢true, not-from-false, not-true, or-cases, or-left, or-right}
 use Rattle.code.specs.Search.{among}
 use Rattle.listings.specs.Lawful.{Lawful}
 use Rattle.classes.specs.Duties.{detectable, Detects}

@@ -1,16 +1,14 @@
 -- Burst errors: the listing holds exactly the runs of l ones, it rises, and it is a class's listing. All that others know of the burst listing stands here.
 use Prim.Native.Nat.{ℕ, zero, suc, _+_, _-_, _*_, _/_, _%_, _^_, _<_, _≤_}
-use mathlib.Core.Path.{_≡_, refl, sym, ap, ap₂, _∙_, subst}
+use mathlib.Core.Path.{_≡_, sym, ap, ap₂, _∙_, subst}
 use mathlib.Core.Bool.{true}
-use mathlib.Core.List.{List, [], _∷_, map}
 use mathlib.Core.Logic.{inl, inr}
 use native.Mathlib.Omega.{arith}
 use native.Mathlib.Nat.{pow-suc, mul-one, mul-assoc, mul-le-mul-right, mul-lt-mul-of-pos-left, div-eq-of-lt}
 use lib.Count.{trailingZeros, under}
 use lib.ListN.{length, getD}
 use lib.Pow.{pow-pos, pow-add, pow-mono, shl-shr}
-use Rattle.std.specs.Iters.{counting}
-use Rattle.std.proofs.shelf.Bits.{shl-below, mul-le, mul-lt, pow-below}
+use Rattle.std.proofs.shelf.Bits.{shl-below, mul-le, pow-below}
 use Rattle.std.proofs.shelf.Counted.{length-map-counting, getD-map-counting}
 use Rattle.std.proofs.shelf.Tests.{cases-lt}
 use Rattle.code.proofs.Bits.{bit-first, bit-next, bits-same}
@@ -23,6 +21,7 @@ use Rattle.listings.specs.Lawful.{Lawful, Patterns}
 use Rattle.listings.specs.Limits.{least-run}
 use Rattle.listings.specs.Listings.{run, burst}
 use Rattle.listings.specs.Subject.{Ascending, RunFrom, RunWithin, ListsBurst}
+use Rattle.listings.proofs.Choosing.{eighth}
 
 -- ---- the listing by its places
 
@@ -142,7 +141,7 @@ burst-each n l o f p h =
     let b = run-below n l (k .0) (k .1) in
     (omega (arith, k .2), omega (arith, k .2))
 
-pub burst-few : (n l : ℕ) → n ≤ most-columns → length (burst n l) ≤ 125000
+pub burst-few : (n l : ℕ) → n ≤ most-columns → length (burst n l) ≤ eighth
 burst-few n l h = let e = burst-length n l in omega arith
 
 pub burst-lawful : (n l : ℕ) → least-columns ≤ n → n ≤ most-columns → least-run ≤ l → l ≤ n → Lawful n (burst n l)

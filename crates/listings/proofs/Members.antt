@@ -1,11 +1,11 @@
 -- Which numbers a joined or a mapped list holds, and each of its places by number.
 use Prim.Native.Nat.{ℕ, _-_, _<_, _≤_}
-use mathlib.Core.Path.{_≡_, refl, sym, ap, _∙_, subst}
+use mathlib.Core.Path.{_≡_, refl, sym, ap, _∙_}
 use mathlib.Core.Bool.{true, false, cond, _||_}
 use mathlib.Core.List.{List, [], _∷_, _++_, map}
 use mathlib.Core.Logic.{_⊎_, inl, inr}
 use native.Mathlib.Omega.{arith}
-use lib.Dec.{eqb, ltb}
+use lib.Dec.{eqb}
 use lib.ListN.{length, getD}
 use Rattle.std.proofs.shelf.Lists.{length-append, getD-append-left, getD-append-right}
 use Rattle.std.proofs.shelf.Tests.{cases-lt, eq-eqb, eqb-true, false≢true, le-ltb, lt-ltb, or-cases, or-left, or-right}

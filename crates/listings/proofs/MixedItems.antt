@@ -1,22 +1,22 @@
 -- Mixed errors: what items list, one after the other, is a class's listing.
-use Prim.Native.Nat.{ℕ, zero, suc, _+_, _-_, _*_, _^_, _<_, _≤_}
-use mathlib.Core.Path.{_≡_, refl, sym, ap, _∙_, subst}
-use mathlib.Core.Bool.{Bool, true, false, _&&_}
-use mathlib.Core.List.{List, [], _∷_, _++_}
+use Prim.Native.Nat.{ℕ, _-_, _*_, _^_, _≤_}
+use mathlib.Core.Path.{_≡_, subst}
+use mathlib.Core.Bool.{true}
+use mathlib.Core.List.{List, [], _∷_}
 use mathlib.Core.Logic.{inl, inr}
 use native.Mathlib.Omega.{arith}
-use lib.Dec.{ltb, leb, eqb}
-use lib.ListN.{length, getD, take, drop}
+use lib.Dec.{eqb}
+use lib.ListN.{length, take}
 use Rattle.std.proofs.shelf.Lists.{length-append, length-take-le}
 use Rattle.std.proofs.shelf.Tests.{and-parts, eqb-true, false≢true, leb-true, ltb-true, or-cases}
 use Rattle.code.specs.Limits.{least-columns, most-columns}
-use Rattle.code.specs.Search.{among}
 use Rattle.listings.specs.Items.{listing, mixed, good-ones, good-run, good-item, good-items}
 use Rattle.listings.specs.Lawful.{Lawful, Pattern, Patterns}
-use Rattle.listings.specs.Limits.{most-ones, least-run, most-run, most-items}
+use Rattle.listings.specs.Limits.{most-ones, least-run, most-run, most-items, most-patterns}
 use Rattle.listings.specs.declared.item.Item.{Item}
 use Rattle.listings.specs.declared.item.Item.the-variants.{Random, Burst, Mask}
 use Rattle.listings.proofs.BurstRuns.{burst-each, burst-few}
+use Rattle.listings.proofs.Choosing.{eighth}
 use Rattle.listings.proofs.Members.{append-cases}
 use Rattle.listings.proofs.RandomWords.{random-each, random-few}
 
@@ -42,7 +42,7 @@ run-good n l e =
     let q = and-parts _ _ (p .1) in
     record { some = leb-true least-run l (p .0); few = leb-true l most-run (q .0); fit = leb-true l n (q .1) }
 
-item-few : (n : ℕ) (item : Item) → n ≤ most-columns → good-item n item ≡ true → length (listing n item) ≤ 125000
+item-few : (n : ℕ) (item : Item) → n ≤ most-columns → good-item n item ≡ true → length (listing n item) ≤ eighth
 item-few n (Random t) h g = random-few n t h (ones-good n t g .few)
 item-few n (Burst l) h g = burst-few n l h
 item-few n (Mask m) h g = omega arith
@@ -55,7 +55,7 @@ item-each n (Mask m) g p h = elim (or-cases (eqb m p) _ h) [
   | inr f ↦ absurd (false≢true f)
 ]
 
-items-few : (n : ℕ) (items : List Item) → n ≤ most-columns → good-items n items ≡ true → length (mixed n items) ≤ length items * 125000
+items-few : (n : ℕ) (items : List Item) → n ≤ most-columns → good-items n items ≡ true → length (mixed n items) ≤ length items * eighth
 items-few n [] h g = omega arith
 items-few n (item ∷ items) h g =
     let p = and-parts _ _ g in
@@ -69,7 +69,7 @@ items-each n (item ∷ items) g p h =
     let q = and-parts _ _ g in
     elim (append-cases (listing n item) (mixed n items) p h) [ inl k ↦ item-each n item (q .0) p k | inr k ↦ items-each n items (q .1) p k ]
 
-pub mixed-few : (n : ℕ) (items : List Item) → n ≤ most-columns → length items ≤ most-items → good-items n items ≡ true → length (mixed n items) ≤ 1000000
+pub mixed-few : (n : ℕ) (items : List Item) → n ≤ most-columns → length items ≤ most-items → good-items n items ≡ true → length (mixed n items) ≤ most-patterns
 mixed-few n items h f g = let m = items-few n items h g in omega arith
 
 -- the first k of an array of items

@@ -2,7 +2,7 @@
 use Prim.Native.Nat.{ℕ, zero, suc, _+_, _-_, _*_, _/_, _^_, _<_, _≤_}
 use mathlib.Core.Path.{_≡_, refl, sym, ap, ap₂, _∙_, subst}
 use mathlib.Core.Bool.{true}
-use mathlib.Core.List.{List, [], _∷_, _++_, map}
+use mathlib.Core.List.{List, map}
 use mathlib.Core.Logic.{inl, inr}
 use native.Mathlib.Omega.{arith}
 use native.Mathlib.Nat.{pow-suc, one-mul}
@@ -22,7 +22,7 @@ use Rattle.listings.specs.Limits.{most-ones}
 use Rattle.listings.specs.Listings.{random, choose}
 use Rattle.listings.specs.Subject.{OnesAmong, ListsRandom}
 use Rattle.listings.proofs.Ascents.{Climbs, climbs-append, climbs-add, ascending}
-use Rattle.listings.proofs.Choosing.{choose-few, choose-mono}
+use Rattle.listings.proofs.Choosing.{eighth, choose-few, choose-mono}
 use Rattle.listings.proofs.Members.{append-cases, append-left, append-right, among-map, map-among}
 
 -- ---- how many ones a word has
@@ -111,7 +111,7 @@ random-each n t l p h =
     let r = random-only n t p h in
     (elim (cases-eq p 0) [ inl z ↦ (let o = ones-zero in let s = ap ones z in absurd (omega (arith, r .1))) | inr d ↦ omega arith ], r .0)
 
-pub random-few : (n t : ℕ) → n ≤ most-columns → t ≤ most-ones → length (random n t) ≤ 125000
+pub random-few : (n t : ℕ) → n ≤ most-columns → t ≤ most-ones → length (random n t) ≤ eighth
 random-few n t h m = let e = random-length n t in let f = choose-few n t h m in omega arith
 
 pub random-lawful : (n t : ℕ) → least-columns ≤ n → n ≤ most-columns → 1 ≤ t → t ≤ most-ones → Lawful n (random n t)

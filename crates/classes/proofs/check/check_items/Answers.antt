@@ -1,4 +1,3 @@
-use mathlib.Core.Path.{sym}
 use Rattle.std.proofs.shelf.Results.{err-from-errBy}
 use Rattle.classes.specs.Opening.{item-refusal}
 use Rattle.classes.proofs.Refusing.{refused-here, passed-here, passed-all}

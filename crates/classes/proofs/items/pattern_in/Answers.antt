@@ -1,7 +1,7 @@
-use Prim.Native.Nat.{_-_, _+_, _<_, _≤_}
-use mathlib.Core.Path.{_≡_, sym, ap, _∙_}
+use Prim.Native.Nat.{_-_, _+_}
+use mathlib.Core.Path.{sym, ap, _∙_}
 use native.Mathlib.Omega.{arith}
-use lib.ListN.{length, getD, drop}
+use lib.ListN.{drop}
 use Rattle.std.specs.declared.result.Result.the-variants.{Ok}
 use Rattle.listings.specs.Items.{mixed}
 use Rattle.listings.specs.Lawful.{pattern-at}

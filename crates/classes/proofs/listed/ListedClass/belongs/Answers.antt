@@ -1,7 +1,6 @@
-use mathlib.Core.Path.{_≡_, sym, ap, _∙_}
+use mathlib.Core.Path.{sym, ap, _∙_}
 use mathlib.Core.Bool.{_||_}
 use Prim.Native.Nat.{_+_}
-use lib.Dec.{eqb}
 use lib.ListN.{getD, drop}
 use Rattle.code.specs.Search.{among}
 use Rattle.std.proofs.shelf.Tests.{eq-eqb, ne-eqb}
