@@ -1,14 +1,15 @@
--- How many ways there are to choose t of n columns: written out for t up to 3, growing with n, and few enough.
-use Prim.Native.Nat.{ℕ, zero, suc, _+_, _*_, _<_, _≤_}
-use mathlib.Core.Path.{_≡_, refl, sym, ap, subst}
+-- How many ways there are to choose t of n columns: written out for t up to 3, growing with n, few enough, and by factorials.
+use Prim.Native.Nat.{ℕ, zero, suc, _+_, _-_, _*_, _<_, _≤_}
+use mathlib.Core.Path.{_≡_, refl, sym, ap, ap₂, _∙_, subst}
 use mathlib.Core.Logic.{inl, inr}
 use native.Mathlib.Omega.{arith}
-use native.Mathlib.Nat.{one-mul, suc-mul, mul-suc, add-mul}
+use native.Mathlib.Nat.{one-mul, suc-mul, mul-suc, mul-assoc, mul-left-comm, add-mul}
 use Rattle.std.proofs.shelf.Bits.{mul-le}
 use Rattle.std.proofs.shelf.Tests.{cases-lt}
 use Rattle.code.specs.Limits.{most-columns}
 use Rattle.listings.specs.Limits.{most-ones}
-use Rattle.listings.specs.Listings.{choose}
+use Rattle.listings.specs.Listings.{choose, factorial}
+use Rattle.listings.specs.Subject.{Chosen}
 
 pub choose-one : (n : ℕ) → choose n 1 ≡ n
 choose-one zero = refl
@@ -69,3 +70,37 @@ choose-none (suc t) h = refl
 pub choose-some : (n t i : ℕ) → 1 ≤ t → i < choose n t → 0 < n
 choose-some zero t i h l = let z = choose-none t h in absurd (omega arith)
 choose-some (suc n) t i h l = omega arith
+
+-- ---- n choose t by factorials
+
+choose-over : (n t : ℕ) → n < t → choose n t ≡ 0
+choose-over n zero h = absurd (omega arith)
+choose-over zero (suc t) h = refl
+choose-over (suc n) (suc t) h = let a = choose-over n (suc t) (omega arith) in let b = choose-over n t (omega arith) in omega arith
+
+-- a factor comes to the front
+last-out : (a b k c : ℕ) → a * (b * (k * c)) ≡ k * (a * (b * c))
+last-out a b k c = ap (λ x. a * x) (mul-left-comm b k c) ∙ mul-left-comm a k (b * c)
+
+middle-out : (a k b c : ℕ) → a * (k * b * c) ≡ k * (a * (b * c))
+middle-out a k b c = ap (λ x. a * x) (mul-assoc k b c) ∙ mul-left-comm a k (b * c)
+
+chosen : (n t m : ℕ) → t + m ≡ n → choose n t * (factorial t * factorial m) ≡ factorial n
+chosen n zero m e = one-mul (1 * factorial m) ∙ (one-mul (factorial m) ∙ ap factorial (let s : m ≡ n = omega arith in s))
+chosen zero (suc t) m e = absurd (omega arith)
+chosen (suc n) (suc t) zero e =
+    let same : t ≡ n = omega arith in
+    let none : choose n (suc t) + choose n t ≡ choose n t = let z = choose-over n (suc t) (omega arith) in omega arith in
+    ap (λ x. x * (factorial (suc t) * factorial 0)) none
+    ∙ (middle-out (choose n t) (suc t) (factorial t) (factorial 0)
+    ∙ (ap (λ x. suc t * x) (chosen n t zero (omega arith)) ∙ ap (λ x. suc x * factorial n) same))
+chosen (suc n) (suc t) (suc m) e =
+    let a : choose n (suc t) * (factorial (suc t) * factorial (suc m)) ≡ suc m * factorial n
+    = last-out (choose n (suc t)) (factorial (suc t)) (suc m) (factorial m) ∙ ap (λ x. suc m * x) (chosen n (suc t) m (omega arith)) in
+    let b : choose n t * (factorial (suc t) * factorial (suc m)) ≡ suc t * factorial n
+    = middle-out (choose n t) (suc t) (factorial t) (factorial (suc m)) ∙ ap (λ x. suc t * x) (chosen n t (suc m) (omega arith)) in
+    add-mul (choose n (suc t)) (choose n t) (factorial (suc t) * factorial (suc m))
+    ∙ (ap₂ _+_ a b ∙ (sym (add-mul (suc m) (suc t) (factorial n)) ∙ ap (λ x. x * factorial n) (let s : suc m + suc t ≡ suc n = omega arith in s)))
+
+pub choose-chosen : (n t : ℕ) → t ≤ n → Chosen n t (choose n t)
+choose-chosen n t h = (refl, chosen n t (n - t) (omega arith))

@@ -20,9 +20,9 @@ use Rattle.code.specs.Search.{among}
 use Rattle.listings.specs.Lawful.{Lawful, Patterns}
 use Rattle.listings.specs.Limits.{most-ones}
 use Rattle.listings.specs.Listings.{random, choose}
-use Rattle.listings.specs.Subject.{OnesAmong, ListsRandom}
+use Rattle.listings.specs.Subject.{OnesAmong, Chosen, ListsRandom}
 use Rattle.listings.proofs.Ascents.{Climbs, climbs-append, climbs-add, ascending}
-use Rattle.listings.proofs.Choosing.{eighth, choose-few, choose-mono}
+use Rattle.listings.proofs.Choosing.{eighth, choose-few, choose-mono, choose-chosen}
 use Rattle.listings.proofs.Members.{append-cases, append-left, append-right, among-map, map-among}
 
 -- ---- how many ones a word has
@@ -101,8 +101,9 @@ climbing (suc n) (suc t) =
     climbs-append 0 (0 + 2 ^ n) (random n (suc t)) (lifted n t) (omega arith) (climbing n (suc t)) (λ w h. omega (arith, random-only n (suc t) w h .0)) (climbs-add 0 (2 ^ n) (random n t) (climbing n t))
 
 -- the listing in the subject's own words
-pub lists-random : (n t : ℕ) → ListsRandom n t (random n t)
-lists-random n t = ((λ w. (random-only n t w, random-every n t w)), ascending 0 (random n t) (climbing n t), random-length n t)
+pub lists-random : (n t : ℕ) → t ≤ n → ListsRandom n t (random n t)
+lists-random n t f =
+    ((λ w. (random-only n t w, random-every n t w)), ascending 0 (random n t) (climbing n t), subst (Chosen n t) (sym (random-length n t)) (choose-chosen n t f))
 
 -- ---- a class
 

@@ -15,6 +15,10 @@ choose n zero = 1
 choose zero (suc t) = 0
 choose (suc n) (suc t) = choose n (suc t) + choose n t
 
+abbrev pub factorial : ℕ → ℕ
+factorial zero = 1
+factorial (suc n) = suc n * factorial n
+
 -- the word with l ones from column i on, and no others
 abbrev pub run : ℕ → ℕ → ℕ
 run l i = (2 ^ l - 1) * 2 ^ i

@@ -1,5 +1,5 @@
 -- What random and burst errors are, in the subject's own words.
-use Prim.Native.Nat.{ℕ, _+_, _-_, _^_, _<_, _≤_}
+use Prim.Native.Nat.{ℕ, _+_, _-_, _*_, _^_, _<_, _≤_}
 use mathlib.Core.Path.{_≡_}
 use mathlib.Core.List.{List}
 use lib.Count.{ones}
@@ -7,7 +7,7 @@ use lib.ListN.{length, getD}
 use Rattle.std.specs.Orderings.{Decides}
 use Rattle.code.specs.Search.{among}
 use Rattle.code.specs.Words.{bit}
-use Rattle.listings.specs.Listings.{choose}
+use Rattle.listings.specs.Listings.{choose, factorial}
 
 -- the listing holds a word exactly when P holds of it
 abbrev pub Exactly : (ℕ → Type 0) → List ℕ → Type 0
@@ -29,9 +29,13 @@ RunFrom l i w = ((j : ℕ) → i ≤ j → j < i + l → bit w j ≡ 1) × ((j :
 abbrev pub RunWithin : ℕ → ℕ → ℕ → Type 0
 RunWithin n l w = (i : ℕ) × (i + l ≤ n) × RunFrom l i w
 
+-- a count is n choose t: by Pascal's rule, and so n! is the count times t! times (n - t)!
+abbrev pub Chosen : ℕ → ℕ → ℕ → Type 0
+Chosen n t count = (count ≡ choose n t) × (count * (factorial t * factorial (n - t)) ≡ factorial n)
+
 -- exactly the words of n bits with t ones, each once and rising, n choose t of them
 abbrev pub ListsRandom : ℕ → ℕ → List ℕ → Type 0
-ListsRandom n t ps = Exactly (OnesAmong n t) ps × Ascending ps × (length ps ≡ choose n t)
+ListsRandom n t ps = Exactly (OnesAmong n t) ps × Ascending ps × Chosen n t (length ps)
 
 -- exactly the runs of l ones within n columns, each once and rising, n - l + 1 of them
 abbrev pub ListsBurst : ℕ → ℕ → List ℕ → Type 0
