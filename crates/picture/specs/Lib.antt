@@ -1,2 +1,4 @@
 pub mod Drawn
 pub mod Pictured
+pub mod Patterned
+pub mod Nouns

@@ -57,7 +57,7 @@ fn labelled(heap: Global, name: &str) -> Result<String, AllocError>
 }
 
 // A line of the table with a number for each column.
-fn number_line(
+pub(crate) fn number_line(
     heap: Global,
     name: &str,
     width: usize,
@@ -101,7 +101,7 @@ fn kind_line(
     Ok(line)
 }
 
-fn bit_of(value: u64, i: usize) -> u64
+pub(crate) fn bit_of(value: u64, i: usize) -> u64
     ensures { λ r. ⌜ r ≡ bit value i ⌝ }
 {
     if i < 64 { (value >> i) % 2 } else { 0 }
@@ -118,7 +118,7 @@ fn row_of(heap: Global, i: usize, values: &[u64]) -> Result<Vec<u64>, AllocError
     Ok(digits)
 }
 
-fn column_numbers(heap: Global, count: usize) -> Result<Vec<u64>, AllocError>
+pub(crate) fn column_numbers(heap: Global, count: usize) -> Result<Vec<u64>, AllocError>
     ensures { λ r. ⌜ made r (λ v. vec-items v ≡ counting 0 count) ⌝ }
 {
     let mut numbers = Vec::new(heap);
@@ -129,7 +129,7 @@ fn column_numbers(heap: Global, count: usize) -> Result<Vec<u64>, AllocError>
 }
 
 // How many digits the widest of the numbers has.
-fn widest_of(heap: Global, numbers: &[u64]) -> Result<usize, AllocError>
+pub(crate) fn widest_of(heap: Global, numbers: &[u64]) -> Result<usize, AllocError>
     ensures { λ r. ⌜ made r (λ w. w ≡ widest (now (numbers .entry))) ⌝ }
 {
     let mut most = 0;
@@ -140,7 +140,7 @@ fn widest_of(heap: Global, numbers: &[u64]) -> Result<usize, AllocError>
     Ok(most)
 }
 
-fn push_line(text: &mut String, line: &str) -> Result<(), AllocError>
+pub(crate) fn push_line(text: &mut String, line: &str) -> Result<(), AllocError>
     ensures { λ r. ⌜ made r (λ _. string-bytes (now (text .exit)) ≡ string-bytes (now (text .entry)) ++ (10 ∷ now (line .entry))) ⌝ }
 {
     text.push('\n')?;

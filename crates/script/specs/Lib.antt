@@ -3,7 +3,6 @@ pub mod Numerals
 pub mod Stacked
 pub mod Untaken
 pub mod Rows
-pub mod Nouns
 pub mod Comments
 pub mod Ending
 pub mod Replies

@@ -14,8 +14,8 @@ use Rattle.code.specs.Words.{gather}
 use Rattle.code.specs.declared.refusal.Refusal.{Refusal}
 use Rattle.code.specs.declared.refusal.Refusal.the-variants.{ColumnCount, OutOfBounds, OutOfBoundsAt, DataColumn, ColumnValue, NotUnits, CorrectableClash, DetectableClash, WidthsDiffer, BeyondEnd, TooWide, TooWideAt, LostCell, ShortTable, CampaignFull}
 use Rattle.picture.specs.Drawn.{drawn}
+use Rattle.picture.specs.Nouns.{counted}
 use Rattle.picture.specs.Pictured.{pictured}
-use Rattle.script.specs.Nouns.{counted}
 
 -- a word, what is said of it, and the bits of that, drawn
 abbrev pub word-line : List ℕ → ℕ → ℕ → List ℕ → List ℕ → List ℕ

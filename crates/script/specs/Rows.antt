@@ -8,7 +8,7 @@ use Rattle.std.specs.Words.{white}
 use Rattle.std.specs.declared.option.Option.{Option}
 use Rattle.std.specs.declared.option.Option.the-variants.{Some, None}
 use Rattle.script.specs.declared.fault.Fault.{Fault}
-use Rattle.script.specs.declared.fault.Fault.the-variants.{Memory, UnknownCommand, NotNumber, MissingNumber, MissingData, WordTooMany, NotBit, RowWidth, TooManyRows, InDrawing}
+use Rattle.script.specs.declared.fault.Fault.the-variants.{Memory, UnknownCommand, NotNumber, MissingNumber, MissingData, NotNamed, MissingName, WordTooMany, NotBit, RowWidth, TooManyRows, InDrawing}
 
 -- the digits of a row, true for a 1 and false for a 0; any other character is passed over
 abbrev pub rowDigits : List ℕ → List Bool
@@ -30,5 +30,7 @@ Unread cs (UnknownCommand w) = ⊥
 Unread cs (NotNumber w) = ⊥
 Unread cs MissingNumber = ⊥
 Unread cs MissingData = ⊥
+Unread cs (NotNamed w names) = ⊥
+Unread cs (MissingName names) = ⊥
 Unread cs (WordTooMany w) = ⊥
 Unread cs (InDrawing l) = ⊥

@@ -3,7 +3,7 @@ use mathlib.Core.Path.{_≡_}
 use Prim.Native.Nat.{ℕ, _<_, _≤_}
 use Rattle.script.specs.Limits.{most-rows}
 use Rattle.script.specs.declared.fault.Fault.{Fault}
-use Rattle.script.specs.declared.fault.Fault.the-variants.{Memory, UnknownCommand, NotNumber, MissingNumber, MissingData, WordTooMany, NotBit, RowWidth, TooManyRows, InDrawing}
+use Rattle.script.specs.declared.fault.Fault.the-variants.{Memory, UnknownCommand, NotNumber, MissingNumber, MissingData, NotNamed, MissingName, WordTooMany, NotBit, RowWidth, TooManyRows, InDrawing}
 
 -- a row of `width` digits is not taken under `rows` rows of `columns` columns: it is one row too many,
 -- or it is not as wide as the rows above, or memory ran out
@@ -15,6 +15,8 @@ Untaken rows columns width (UnknownCommand w) = ⊥
 Untaken rows columns width (NotNumber w) = ⊥
 Untaken rows columns width MissingNumber = ⊥
 Untaken rows columns width MissingData = ⊥
+Untaken rows columns width (NotNamed w names) = ⊥
+Untaken rows columns width (MissingName names) = ⊥
 Untaken rows columns width (WordTooMany w) = ⊥
 Untaken rows columns width (NotBit c) = ⊥
 Untaken rows columns width (InDrawing l) = ⊥

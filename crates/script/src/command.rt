@@ -2,8 +2,15 @@ use crate::comment::without_comment;
 use crate::fault::Fault;
 use crate::fault::FaultFromRefused;
 use crate::numeral::number;
+use design::Duty;
+use listings::Item;
 use std::alloc::Global;
 use std::str::SplitWhitespace;
+
+// The names of the classes, and those of the kinds of error, as a fault lists them.
+const DUTIES: &str = "'correct' or 'detect'";
+
+const KINDS: &str = "'random', 'burst' or 'mask'";
 
 // What a line asks for.
 #[derive(Drop)]
@@ -22,6 +29,22 @@ pub enum Command {
     Syndrome(u64),
     // the data bits of a word
     Data(u64),
+    // an item is named for a duty
+    Name(Duty, Item),
+    // both classes of errors
+    Classes,
+    // the first patterns for a duty, at most so many
+    Patterns(Duty, usize),
+    // whether a mask is one of the patterns for a duty
+    Belongs(Duty, u64),
+}
+
+// A kind of error, whose number follows.
+#[derive(Clone, Copy)]
+enum Kind {
+    Random,
+    Burst,
+    Mask,
 }
 
 // What a line says while a drawing is open.
@@ -73,6 +96,61 @@ fn code_command<'a>(heap: Global, mut words: SplitWhitespace<'a>) -> Result<Comm
     Err(Fault::MissingData)
 }
 
+// The class that is meant.
+fn read_duty<'a>(words: &mut SplitWhitespace<'a>) -> Result<Duty, Fault<'a>> {
+    match words.next() {
+        Some("correct") => Ok(Duty::Correct),
+        Some("detect") => Ok(Duty::Detect),
+        Some(word) => Err(Fault::NotNamed {
+            word,
+            names: DUTIES,
+        }),
+        None => Err(Fault::MissingName(DUTIES)),
+    }
+}
+
+fn read_kind<'a>(words: &mut SplitWhitespace<'a>) -> Result<Kind, Fault<'a>> {
+    match words.next() {
+        Some("random") => Ok(Kind::Random),
+        Some("burst") => Ok(Kind::Burst),
+        Some("mask") => Ok(Kind::Mask),
+        Some(word) => Err(Fault::NotNamed { word, names: KINDS }),
+        None => Err(Fault::MissingName(KINDS)),
+    }
+}
+
+// A kind of error and its number, to be named for the duty.
+fn name_command<'a>(duty: Duty, mut words: SplitWhitespace<'a>) -> Result<Command, Fault<'a>> {
+    let kind = read_kind(&mut words)?;
+    let n = only_number(&mut words)?;
+    let item = match kind {
+        Kind::Random => Item::Random(n as usize),
+        Kind::Burst => Item::Burst(n as usize),
+        Kind::Mask => Item::Mask(n),
+    };
+    Ok(Command::Name(duty, item))
+}
+
+// A class, and how many of its patterns.
+fn list_command<'a>(mut words: SplitWhitespace<'a>) -> Result<Command, Fault<'a>> {
+    let duty = read_duty(&mut words)?;
+    let limit = only_number(&mut words)?;
+    Ok(Command::Patterns(duty, limit as usize))
+}
+
+// A class, and a mask.
+fn belongs_command<'a>(mut words: SplitWhitespace<'a>) -> Result<Command, Fault<'a>> {
+    let duty = read_duty(&mut words)?;
+    let mask = only_number(&mut words)?;
+    Ok(Command::Belongs(duty, mask))
+}
+
+// A command of one word.
+fn alone<'a>(command: Command, mut words: SplitWhitespace<'a>) -> Result<Command, Fault<'a>> {
+    no_more(&mut words)?;
+    Ok(command)
+}
+
 // Reads a line while no drawing is open.
 pub(crate) fn read_command(heap: Global, line: &str) -> Result<Command, Fault<'_>> {
     let mut words = without_comment(line).split_whitespace();
@@ -84,14 +162,13 @@ pub(crate) fn read_command(heap: Global, line: &str) -> Result<Command, Fault<'_
         "encode" => Ok(Command::Encode(only_number(&mut words)?)),
         "syndrome" => Ok(Command::Syndrome(only_number(&mut words)?)),
         "data" => Ok(Command::Data(only_number(&mut words)?)),
-        "matrix" => {
-            no_more(&mut words)?;
-            Ok(Command::Matrix)
-        }
-        "show" => {
-            no_more(&mut words)?;
-            Ok(Command::Show)
-        }
+        "correct" => name_command(Duty::Correct, words),
+        "detect" => name_command(Duty::Detect, words),
+        "list" => list_command(words),
+        "belongs" => belongs_command(words),
+        "matrix" => alone(Command::Matrix, words),
+        "show" => alone(Command::Show, words),
+        "classes" => alone(Command::Classes, words),
         _ => Err(Fault::UnknownCommand(first)),
     }
 }

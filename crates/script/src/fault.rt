@@ -1,7 +1,7 @@
 ghost use mathlib.Core.Path.{_≡_};
 ghost use Rattle.script.specs.declared.fault.Fault.the-variants.{Memory};
 use crate::drawing::MOST_ROWS;
-use crate::noun::noun_for;
+use picture::noun_for;
 use std::alloc::AllocError;
 use std::alloc::Refused;
 use std::fmt;
@@ -14,6 +14,10 @@ pub enum Fault<'a> {
     NotNumber(&'a str),
     MissingNumber,
     MissingData,
+    // a word that is none of the names that may stand in its place
+    NotNamed { word: &'a str, names: &'static str },
+    // one of these names is missing
+    MissingName(&'static str),
     WordTooMany(&'a str),
     // a character of a drawn row that is neither 0, 1 nor blank
     NotBit(char),
@@ -47,6 +51,8 @@ pub impl fmt::Display for Fault<'_> as FaultDisplay {
             Fault::NotNumber(word) => write!(f, "'{word}' is not a number"),
             Fault::MissingNumber => f.write_str("a number is missing"),
             Fault::MissingData => f.write_str("'data' and the data columns are missing"),
+            Fault::NotNamed { word, names } => write!(f, "'{word}' is not {names}"),
+            Fault::MissingName(names) => write!(f, "{names} is missing"),
             Fault::WordTooMany(word) => write!(f, "a word too many: '{word}'"),
             Fault::NotBit(c) => write!(f, "'{c}' in a row: a row has only 0 and 1"),
             Fault::RowWidth { drawn, above } => {

@@ -4,7 +4,6 @@ mod command;
 mod comment;
 mod drawing;
 mod fault;
-mod noun;
 mod numeral;
 mod refused;
 mod reply;

@@ -2,12 +2,19 @@ ghost use mathlib.Core.Path.{_≡_};
 ghost use Rattle.std.specs.Of.String.{string-bytes};
 ghost use Rattle.std.specs.Vec.{made};
 ghost use Rattle.script.specs.Replies.{Says, place};
-use crate::noun::counted_text;
 use code::Clash;
 use code::LEAST_COLUMNS;
 use code::MOST_CHECKS;
 use code::MOST_COLUMNS;
 use code::Refusal;
+use code::RefusalPartialEq;
+use listings::Item;
+use listings::LEAST_RUN;
+use listings::MOST_ITEMS;
+use listings::MOST_ONES;
+use listings::MOST_RUN;
+use picture::counted_text;
+use picture::noun_for;
 use std::alloc::AllocError;
 use std::alloc::Global;
 
@@ -78,6 +85,52 @@ fn open_reason(
         },
         Refusal::NotUnits => units_reason(heap, n.saturating_sub(numbers.len())),
         _ => plain_reason(heap, refusal),
+    }
+}
+
+// The item is not named in a class of so many columns.
+pub(crate) fn refused_item(
+    heap: Global,
+    refusal: Refusal,
+    columns: usize,
+    item: Item,
+) -> Result<String, AllocError>
+    ensures { λ r. ⌜ made r (λ t. Says refusal (string-bytes t)) ⌝ }
+{
+    let why = item_reason(heap, refusal, columns, item)?;
+    refused_line(heap, refusal, why.as_str())
+}
+
+fn item_reason(
+    heap: Global,
+    refusal: Refusal,
+    columns: usize,
+    item: Item,
+) -> Result<String, AllocError> {
+    if refusal == Refusal::OutOfBounds {
+        let most = MOST_ITEMS;
+        return format!(heap, "a class has at most {most} items");
+    }
+    match item {
+        Item::Random(ones) => {
+            let upsets = noun_for(ones, "random upset", "random upsets");
+            let most = MOST_ONES.min(columns);
+            format!(
+                heap,
+                "{ones} {upsets} at once, a class of {columns} columns takes 1 to {most}"
+            )
+        }
+        Item::Burst(size) => {
+            let struck = noun_for(size, "column", "columns");
+            let least = LEAST_RUN;
+            let most = MOST_RUN.min(columns);
+            format!(
+                heap,
+                "a burst of {size} {struck}, a class of {columns} columns takes {least} to {most}"
+            )
+        }
+        Item::Mask(0) => String::from_str(heap, "mask 0 flips no column"),
+        Item::Mask(mask) => format!(heap, "mask {mask} has a bit beyond the {columns} columns"),
     }
 }
 

@@ -2,10 +2,10 @@ ghost use mathlib.Core.Path.{_≡_};
 ghost use Rattle.std.specs.Of.String.{string-bytes};
 ghost use Rattle.std.specs.Vec.{made};
 ghost use Rattle.script.specs.Replies.{data-line, encode-line, opened-line, syndrome-line, unfinished-line, wide-data-word, wide-word};
-use crate::noun::counted_text;
-use crate::noun::noun_for;
 use code::Refusal;
 use picture::bits_text;
+use picture::counted_text;
+use picture::noun_for;
 use std::alloc::AllocError;
 use std::alloc::Global;
 

@@ -9,6 +9,6 @@ pub returns-in-rest : need.returns-in-rest
 returns-in-rest c =
     let self = c .args .self .now in
     record {
-      did = subst (λ d. Did (c .args .number) (self .code) d (self .code) d (string-bytes (c .new .result))) (sym (c .in-rest .is)) (Nothing, (refl, refl, c .new .ensures .bytes));
+      did = subst (λ d. Did (c .args .number) (self .design) d (self .design) d (string-bytes (c .new .result))) (sym (c .in-rest .is)) (Nothing, (refl, refl, c .new .ensures .bytes));
       same = tt;
     }

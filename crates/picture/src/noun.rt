@@ -1,19 +1,19 @@
 ghost use mathlib.Core.Path.{_≡_};
 ghost use Rattle.std.specs.Of.String.{string-bytes};
 ghost use Rattle.std.specs.Vec.{made};
-ghost use Rattle.script.specs.Nouns.{counted, oneOr};
+ghost use Rattle.picture.specs.Nouns.{counted, oneOr};
 use std::alloc::AllocError;
 use std::alloc::Global;
 
 // The word for so many things, as `row` for one and `rows` for any other number of them.
-pub(crate) fn noun_for(count: usize, one: &'static str, many: &'static str) -> &'static str
+pub fn noun_for(count: usize, one: &'static str, many: &'static str) -> &'static str
     ensures { λ r. ⌜ now r ≡ oneOr count (now (one .entry)) (now (many .entry)) ⌝ }
 {
     if count == 1 { one } else { many }
 }
 
 // A number of things in words, as `1 row` or `2 rows`.
-pub(crate) fn counted_text(
+pub fn counted_text(
     heap: Global,
     count: usize,
     one: &'static str,
