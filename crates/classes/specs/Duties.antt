@@ -12,6 +12,6 @@ use Rattle.listings.specs.Lawful.{Pattern}
 abbrev pub detectable : List ℕ → List ℕ → List ℕ
 detectable ps qs = kept-by (λ q. not (among ps q)) qs
 
--- the detectable patterns of classes of the widths n and m: listed by the second and not by the first, and patterns of the second's width
+-- a mask is detectable exactly when the second class, of width m, lists it and the first does not; and then it is a pattern of m columns
 abbrev pub Detects : ℕ → List ℕ → List ℕ → Type 0
 Detects m ps qs = (q : ℕ) → Decides (among (detectable ps qs) q) ((among qs q ≡ true) × (among ps q ≡ false) × Pattern m q)
