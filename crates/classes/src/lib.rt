@@ -1,4 +1,6 @@
 // Error classes: what an error class is, and the classes that a student may name.
+#![tactic(auto)]
+
 mod burst;
 mod check;
 mod class;

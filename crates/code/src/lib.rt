@@ -1,4 +1,6 @@
 // Binary linear codes by their parity-check matrix, and the refusals of the whole product.
+#![tactic(auto)]
+
 mod code;
 mod examples;
 mod layout;

@@ -1,4 +1,6 @@
 // A design: a code, and the errors that it is to correct and to flag.
+#![tactic(auto)]
+
 mod belongs;
 mod count;
 mod design;

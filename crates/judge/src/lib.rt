@@ -1,4 +1,6 @@
 // The judge of a design, decoding, and decoding tables.
+#![tactic(auto)]
+
 mod ask;
 mod decoded;
 mod decoder;

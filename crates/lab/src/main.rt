@@ -1,4 +1,6 @@
 // Runs a script from the file that the first argument names, or else from standard input.
+#![tactic(auto)]
+
 use script::Session;
 use std::alloc::AllocError;
 use std::io::{BufRead, BufReader};

@@ -1,4 +1,6 @@
 // What a student may name as errors, and which patterns that lists, in which order.
+#![tactic(auto)]
+
 mod item;
 mod limits;
 

@@ -1,4 +1,6 @@
 // Pictures of words, error patterns and matrices, and numbers of things, as text.
+#![tactic(auto)]
+
 mod noun;
 mod patterns;
 mod table;

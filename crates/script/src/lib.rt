@@ -1,4 +1,6 @@
 // The lab's script: what a line asks for, and the text that answers it.
+#![tactic(auto)]
+
 mod answer;
 mod command;
 mod comment;

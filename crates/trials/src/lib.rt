@@ -1,4 +1,6 @@
 // Tests of the layers below, in a crate of their own so that each layer is proved once.
+#![tactic(auto)]
+
 #[cfg(test)]
 mod codes;
 #[cfg(test)]

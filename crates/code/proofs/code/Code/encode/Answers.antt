@@ -16,19 +16,19 @@ returns-then-word-power c = let self = c.args.self.now in
 
 pub placed-carried-requires : goal.placed-carried-requires
 placed-carried-requires c = let self = c.args.self.now in (
-  within_list _ (data_of self) self.k c.args.word c.power.result c.data-columns.ensures (k_data self) c.power.ensures c.if-word-power.false,
-  places self _ (data_of self) c.data-columns.ensures self.inside,
+  within_list _ (data_of self) self.k c.args.word c.power.result c.data_columns.ensures (k_data self) c.power.ensures c.if-word-power.false,
+  places self _ (data_of self) c.data_columns.ensures self.inside,
 )
 
 pub combined-syndrome-requires : goal.combined-syndrome-requires
 combined-syndrome-requires c =
-    carried_below c.args.self.now _ c.args.word c.placed-carried.result c.column-values.ensures.value
-    (c.placed-carried.ensures ∙ ap (λ xs. place xs c.args.word) c.data-columns.ensures)
+    carried_below c.args.self.now _ c.args.word c.placed-carried.result c.column_values.ensures.value
+    (c.placed-carried.ensures ∙ ap (λ xs. place xs c.args.word) c.data_columns.ensures)
 
 pub placed-requires : goal.placed-requires
 placed-requires c = let self = c.args.self.now in (
   syndrome_below self _ c.placed-carried.result c.combined-syndrome.result c.check_columns.ensures
-      (c.combined-syndrome.ensures ∙ ap (λ xs. combine xs c.placed-carried.result) c.column-values.ensures.value),
+      (c.combined-syndrome.ensures ∙ ap (λ xs. combine xs c.placed-carried.result) c.column_values.ensures.value),
   places self _ _ c.check_columns.ensures (checks_inside self),
 )
 
@@ -36,9 +36,9 @@ pub returns : goal.returns
 returns c =
     let self = c.args.self.now in
     let carried : c.placed-carried.result ≡ place (data_of self) c.args.word
-    = c.placed-carried.ensures ∙ ap (λ xs. place xs c.args.word) c.data-columns.ensures in
+    = c.placed-carried.ensures ∙ ap (λ xs. place xs c.args.word) c.data_columns.ensures in
     let missing : c.combined-syndrome.result ≡ syndrome (columns_of self) (place (data_of self) c.args.word)
-    = c.combined-syndrome.ensures ∙ ap₂ combine c.column-values.ensures.value carried in
+    = c.combined-syndrome.ensures ∙ ap₂ combine c.column_values.ensures.value carried in
     record {
       value = not_beyond (length (data_of self)) self.k c.args.word c.power.result _ _ (k_data self) c.power.ensures c.if-word-power.false
           (ap₂ bit_xor carried (c.placed.ensures ∙ ap₂ place c.check_columns.ensures missing));

@@ -57,10 +57,10 @@ returns c =
     let cs = c.args.values.now in
     let ds = c.args.numbers.now in
     let r = length cs - length ds in
-    let us = c.in-Some-check-columns.checks in
+    let us = c.in-Some-check_columns.checks in
     let shape : Shape (length cs) (length ds) = omega arith in
     let many : length us ≡ most_checks = search rules in
-    let found = c.in-Some-check-columns.ensures in
+    let found = c.in-Some-check_columns.ensures in
     let l : Located cs ds (take r us) = located_take cs ds us r (omega arith) refl found.0 in
-    let w = wellformed_from cs ds (take r us) shape c.in-default.ensures c.in-default-high-value.ensures l found.1 in
+    let w = wellformed_from cs ds (take r us) shape c.in_default.ensures c.in_default-high_value.ensures l found.1 in
     record { value = (wellformed_opens cs ds w, c.padded-values.ensures, c.padded-message.ensures); meaning = w }

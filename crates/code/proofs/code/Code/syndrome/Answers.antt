@@ -7,7 +7,7 @@ use Rattle.code.proofs.code.Code.syndrome.Goals as goal
 
 pub combined-requires : goal.combined-requires
 combined-requires c = let self = c.args.self.now in
-    within_list _ (columns_of self) self.n c.args.word c.power.result c.column-values.ensures.value (n_columns self) c.power.ensures c.if-word-power.false
+    within_list _ (columns_of self) self.n c.args.word c.power.result c.column_values.ensures.value (n_columns self) c.power.ensures c.if-word-power.false
 
 pub returns-then-word-power : goal.returns-then-word-power
 returns-then-word-power c = let self = c.args.self.now in
@@ -21,7 +21,7 @@ pub returns : goal.returns
 returns c = let self = c.args.self.now in
     record {
       value = not_beyond (length (columns_of self)) self.n c.args.word c.power.result _ c.combined.result (n_columns self) c.power.ensures c.if-word-power.false
-          (c.combined.ensures ∙ ap (λ xs. syndrome xs c.args.word) c.column-values.ensures.value);
+          (c.combined.ensures ∙ ap (λ xs. syndrome xs c.args.word) c.column_values.ensures.value);
       linear = linear (columns_of self);
       fits = syndromes_fit (columns_of self) (data_of self) (every_code self);
     }
