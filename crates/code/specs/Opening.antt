@@ -1,5 +1,5 @@
 -- Which column values cs and data column numbers ds are refused, and why.
-use Rattle.std.specs.Prelude.{ℕ, zero, suc, ◌+◌, ◌-◌, ◌^◌, ◌<◌, ◌≤◌, Bool, true, false, not, ◌&&◌, ◌||◌, ◌⊎◌, List, length, Some, None, Option, nat_le, nat_lt, slice_index}
+use Rattle.std.specs.Prelude.{ℕ, zero, suc, ◌+◌, ◌^◌, ◌<◌, ◌≤◌, Bool, true, false, not, ◌&&◌, ◌||◌, ◌⊎◌, List, length, Some, None, Option, nat_le, nat_lt, slice_index}
 use Rattle.code.specs.Limits.{least_columns, most_columns, most_checks}
 use Rattle.code.specs.Search.{least, is_none, among}
 use Rattle.code.specs.Codes.{rows, Shape, Narrow, Units, check_column, check_columns}

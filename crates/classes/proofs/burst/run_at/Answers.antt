@@ -3,8 +3,8 @@ use Rattle.listings.specs.Listings.{run}
 use Rattle.listings.proofs.BurstRuns.{burst_length, burst_at, run_below}
 use Rattle.classes.proofs.burst.run_at.Goals as goal
 
-pub overflow-shl-result : goal.overflow-shl-result
-overflow-shl-result c = omega (arith, burst_length c.args.width c.args.size)
+pub overflow_shl-result : goal.overflow_shl-result
+overflow_shl-result c = omega (arith, burst_length c.args.width c.args.size)
 
 pub returns : goal.returns
 returns c =

@@ -3,13 +3,13 @@ use Rattle.classes.specs.Opening.{item_refusal}
 use Rattle.classes.proofs.Refusing.{refused_here, passed_here, passed_all}
 use Rattle.classes.proofs.check.check_items.Goals as goal
 
-pub returns-in-err-check-item : goal.returns-in-err-check-item
-returns-in-err-check-item c =
-    let p = err_from_is_err_and c.from-residual.result c.from-residual.ensures.1 in
-    rw (p.1, p.2) (refused_here (item_refusal c.args.width) c.args.items.now c.loop-i.i _ _ _ c.loop-i-test.true c.in-err-check-item.ensures c.loop-i.invariant)
+pub returns-in_err-check_item : goal.returns-in_err-check_item
+returns-in_err-check_item c =
+    let p = err_from_is_err_and c.from_residual.result c.from_residual.ensures.1 in
+    rw (p.1, p.2) (refused_here (item_refusal c.args.width) c.args.items.now c.loop-i.i _ _ _ c.loop-i-test.true c.in_err-check_item.ensures c.loop-i.invariant)
 
 pub loop-i-preserved : goal.loop-i-preserved
-loop-i-preserved c = passed_here (item_refusal c.args.width) c.args.items.now c.loop-i.i _ _ c.loop-i-test.true c.in-ok-check-item.ensures c.loop-i.invariant
+loop-i-preserved c = passed_here (item_refusal c.args.width) c.args.items.now c.loop-i.i _ _ c.loop-i-test.true c.in_ok-check_item.ensures c.loop-i.invariant
 
 pub returns : goal.returns
 returns c = passed_all (item_refusal c.args.width) c.args.items.now c.loop-i.i _ c.loop-i-test.false c.loop-i.invariant

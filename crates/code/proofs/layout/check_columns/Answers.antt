@@ -11,10 +11,10 @@ row_set cs ds us i j h inv p =
     (λ t k. let ne : t ≢ i = omega arith in subst (RowAt cs ds t) (sym (get_or-set_other us i t j 0 ne)) (inv t k))
     (subst (RowAt cs ds i) (sym (get_or-set_same us i j 0 h)) p)
 
-pub returns-in-default : goal.returns-in-default
-returns-in-default c u =
+pub returns-in_default : goal.returns-in_default
+returns-in_default c u =
     let s = u.some_check c.loop-i.i (omega (arith, c.requires.1, c.loop-i-test.true)) in
-    c.in-default.ensures s.0 s.1.0 s.1.1 (s.2 ∙ sym c.power.ensures)
+    c.in_default.ensures s.0 s.1.0 s.1.1 (s.2 ∙ sym c.power.ensures)
 
 pub loop-i-preserved : goal.loop-i-preserved
 loop-i-preserved c =

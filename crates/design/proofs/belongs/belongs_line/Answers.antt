@@ -13,6 +13,6 @@ returns c =
     let said : List ℕ → List ℕ → List ℕ = λ name answer. codes "belongs " ++ (name ++ (codes " " ++ (decimal mask ++ (codes ": " ++ answer)))) in
     let asked : c.belongs.result ≡ among (patterns_of c.class.result.now) mask = c.belongs.ensures in
     let member : c.belongs.result ≡ among ps mask = asked ∙ ap (λ (m : Mixed). among (patterns_of m) mask) c.class.ensures.value in
-    let answer : c.yes-or-no-answer.result.now ≡ yes_or_no (among ps mask) = c.yes-or-no-answer.ensures ∙ ap yes_or_no member in
-    subst (λ (l : List ℕ). IfOk c.format.result (λ t. string_bytes t ≡ said l (yes_or_no (among ps mask)))) c.duty-name-name.ensures
-    (subst (λ (l : List ℕ). IfOk c.format.result (λ t. string_bytes t ≡ said c.duty-name-name.result.now l)) answer (search rules))
+    let answer : c.yes_or_no-answer.result.now ≡ yes_or_no (among ps mask) = c.yes_or_no-answer.ensures ∙ ap yes_or_no member in
+    subst (λ (l : List ℕ). IfOk c.format.result (λ t. string_bytes t ≡ said l (yes_or_no (among ps mask)))) c.duty_name-name.ensures
+    (subst (λ (l : List ℕ). IfOk c.format.result (λ t. string_bytes t ≡ said c.duty_name-name.result.now l)) answer (search rules))

@@ -7,9 +7,9 @@ use Rattle.design.proofs.overview.classes_text.Goals as goal
 pub returns : goal.returns
 returns c =
     let d : Design = c.args.design.now in
-    let first : List ℕ = string_bytes c.in-ok-first.first in
-    let second : List ℕ = string_bytes c.in-ok-second.second in
-    let end : string_bytes c.in-ok-last.last ≡ count_line (codes "detectable") (length (detectable_of d)) = c.in-ok-last.ensures ∙ ap (λ (n : ℕ). count_line (codes "detectable") n) c.detectable.ensures in
-    subst (λ (l : List ℕ). IfOk c.format.result (λ t. string_bytes t ≡ l ++ (10 ∷ (section_text d Detect ++ (10 ∷ count_line (codes "detectable") (length (detectable_of d))))))) c.in-ok-first.ensures
-    (subst (λ (l : List ℕ). IfOk c.format.result (λ t. string_bytes t ≡ first ++ (10 ∷ (l ++ (10 ∷ count_line (codes "detectable") (length (detectable_of d))))))) c.in-ok-second.ensures
+    let first : List ℕ = string_bytes c.in_ok-first.first in
+    let second : List ℕ = string_bytes c.in_ok-second.second in
+    let end : string_bytes c.in_ok-last.last ≡ count_line (codes "detectable") (length (detectable_of d)) = c.in_ok-last.ensures ∙ ap (λ (n : ℕ). count_line (codes "detectable") n) c.detectable.ensures in
+    subst (λ (l : List ℕ). IfOk c.format.result (λ t. string_bytes t ≡ l ++ (10 ∷ (section_text d Detect ++ (10 ∷ count_line (codes "detectable") (length (detectable_of d))))))) c.in_ok-first.ensures
+    (subst (λ (l : List ℕ). IfOk c.format.result (λ t. string_bytes t ≡ first ++ (10 ∷ (l ++ (10 ∷ count_line (codes "detectable") (length (detectable_of d))))))) c.in_ok-second.ensures
     (subst (λ (l : List ℕ). IfOk c.format.result (λ t. string_bytes t ≡ first ++ (10 ∷ (second ++ (10 ∷ l))))) end (search rules)))

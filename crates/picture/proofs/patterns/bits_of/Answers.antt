@@ -10,5 +10,5 @@ loop-j-preserved c =
     let p : ℕ = c.args.pattern in
     let was : List ℕ = vec_items c.loop-j.bits in
     let grown : vec_items c.push.new.self ≡ was ++ (bit p c.loop-j.j ∷ []) =
-    c.in-ok-push.ensures.items ∙ ap (λ (x : ℕ). was ++ (x ∷ [])) c.bit-of.ensures in
+    c.in_ok-push.ensures.items ∙ ap (λ (x : ℕ). was ++ (x ∷ [])) c.bit_of.ensures in
     count_more (λ k i. map (bit p) (range_with_len i k)) (λ i. bit p i ∷ []) (λ k i. refl) was (vec_items c.push.new.self) (bits_of c.args.columns p) c.args.columns c.loop-j.j c.loop-j-test.true grown c.loop-j.invariant

@@ -7,8 +7,8 @@ pub returns : goal.returns
 unfolding pattern_line
 returns c =
     let w : ℕ = c.args.width in
-    let name : c.as-str.result.now ≡ decimal c.args.i = c.as-str.ensures.value ∙ c.in-ok-name.ensures.ok in
-    let bits : c.as-slice.result.now ≡ bits_of c.args.columns c.args.pattern = c.as-slice.ensures.value ∙ c.in-ok-bits.ensures in
-    let cells : string_bytes c.in-ok-cells.cells ≡ number_line (decimal c.args.i) w (bits_of c.args.columns c.args.pattern) =
-    c.in-ok-cells.ensures ∙ (ap (λ (l : List ℕ). number_line l w c.as-slice.result.now) name ∙ ap (λ (l : List ℕ). number_line (decimal c.args.i) w l) bits) in
+    let name : c.as_str.result.now ≡ decimal c.args.i = c.as_str.ensures.value ∙ c.in_ok-name.ensures.ok in
+    let bits : c.as_slice.result.now ≡ bits_of c.args.columns c.args.pattern = c.as_slice.ensures.value ∙ c.in_ok-bits.ensures in
+    let cells : string_bytes c.in_ok-cells.cells ≡ number_line (decimal c.args.i) w (bits_of c.args.columns c.args.pattern) =
+    c.in_ok-cells.ensures ∙ (ap (λ (l : List ℕ). number_line l w c.as_slice.result.now) name ∙ ap (λ (l : List ℕ). number_line (decimal c.args.i) w l) bits) in
     subst (λ (l : List ℕ). IfOk c.format-2.result (λ t. string_bytes t ≡ l ++ (codes " = " ++ decimal c.args.pattern))) cells (search rules)

@@ -11,6 +11,6 @@ loop-i-preserved c =
     let ps : List ℕ = c.args.patterns.now in
     let was : List ℕ = string_bytes c.loop-i.text in
     let line : ℕ → List ℕ = λ i. 10 ∷ pattern_line w n i (get_or ps i 0) in
-    let grown : string_bytes c.push-line.new.text ≡ was ++ line c.loop-i.i =
-    c.in-ok-push-line.ensures ∙ ap (λ (l : List ℕ). was ++ (10 ∷ l)) (c.as-str.ensures.value ∙ c.in-ok-line.ensures) in
-    count_more (pattern_lines w n ps) line (λ k i. refl) was (string_bytes c.push-line.new.text) (number_line (codes "column") w c.args.numbers.now ++ pattern_lines w n ps (length ps) 0) (length ps) c.loop-i.i c.loop-i-test.true grown c.loop-i.invariant
+    let grown : string_bytes c.push_line.new.text ≡ was ++ line c.loop-i.i =
+    c.in_ok-push_line.ensures ∙ ap (λ (l : List ℕ). was ++ (10 ∷ l)) (c.as_str.ensures.value ∙ c.in_ok-line.ensures) in
+    count_more (pattern_lines w n ps) line (λ k i. refl) was (string_bytes c.push_line.new.text) (number_line (codes "column") w c.args.numbers.now ++ pattern_lines w n ps (length ps) 0) (length ps) c.loop-i.i c.loop-i-test.true grown c.loop-i.invariant

@@ -11,9 +11,9 @@ returns c =
     let n : ℕ = c.args.columns in
     let ns : List ℕ = range_with_len 0 n in
     let table : List ℕ → ℕ → List ℕ = λ numbers w. number_line (codes "column") w numbers ++ pattern_lines w n ps (length ps) 0 in
-    let first : c.as-slice.result.now ≡ ns = c.as-slice.ensures.value ∙ c.in-ok-numbers.ensures in
-    let second : c.as-slice-2.result.now ≡ ns = c.as-slice-2.ensures.value ∙ c.in-ok-numbers.ensures in
-    let wide : c.in-ok-width.width ≡ column_width n = c.in-ok-width.ensures ∙ ap widest first in
-    let same : table c.as-slice-2.result.now c.in-ok-width.width ≡ table ns (column_width n) =
-    ap (λ (l : List ℕ). table l c.in-ok-width.width) second ∙ ap (λ (w : ℕ). table ns w) wide in
-    subst (λ (l : List ℕ). IfOk c.pattern-lines.result (λ t. string_bytes t ≡ l)) same c.pattern-lines.ensures
+    let first : c.as_slice.result.now ≡ ns = c.as_slice.ensures.value ∙ c.in_ok-numbers.ensures in
+    let second : c.as_slice-2.result.now ≡ ns = c.as_slice-2.ensures.value ∙ c.in_ok-numbers.ensures in
+    let wide : c.in_ok-width.width ≡ column_width n = c.in_ok-width.ensures ∙ ap widest first in
+    let same : table c.as_slice-2.result.now c.in_ok-width.width ≡ table ns (column_width n) =
+    ap (λ (l : List ℕ). table l c.in_ok-width.width) second ∙ ap (λ (w : ℕ). table ns w) wide in
+    subst (λ (l : List ℕ). IfOk c.pattern_lines.result (λ t. string_bytes t ≡ l)) same c.pattern_lines.ensures

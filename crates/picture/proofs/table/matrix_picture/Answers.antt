@@ -14,13 +14,13 @@ pub returns : goal.returns
 unfolding pictured table_width
 returns c =
     let vs : List ℕ = c.args.values.now in
-    let ds : List ℕ = c.args.data-columns.now in
-    let w : ℕ = c.in-ok-width.width in
+    let ds : List ℕ = c.args.data_columns.now in
+    let w : ℕ = c.in_ok-width.width in
     let ns : List ℕ = range_with_len 0 (length vs) in
-    let first : c.as-slice.result.now ≡ ns = c.as-slice.ensures.value ∙ c.in-ok-numbers.ensures in
-    let second : c.as-slice-2.result.now ≡ ns = c.as-slice-2.ensures.value ∙ c.in-ok-numbers.ensures in
-    let wide : w ≡ max (widest ns) (widest vs) = c.in-ok-width.ensures ∙ ap (λ (l : List ℕ). max (widest l) (widest vs)) first in
-    let upper : string_bytes c.in-ok-text.text ≡ number_line (codes "column") w ns ++ row_lines w vs c.args.rows 0 = c.in-ok-text.ensures ∙ ap (λ (l : List ℕ). number_line (codes "column") w l ++ row_lines w vs c.args.rows 0) second in
-    let drawn : string_bytes c.push-line-2.new.text ≡ number_line (codes "column") w ns ++ (row_lines w vs c.args.rows 0 ++ ((10 ∷ number_line (codes "value") w vs) ++ (10 ∷ (label (codes "kind") ++ kind_cells w ds (length vs) 0)))) =
-    two_lines (string_bytes c.in-ok-text.text) (string_bytes c.push-line.new.text) (string_bytes c.push-line-2.new.text) (number_line (codes "column") w ns) (row_lines w vs c.args.rows 0) (number_line (codes "value") w vs) (label (codes "kind") ++ kind_cells w ds (length vs) 0) c.as-str.result.now c.as-str-2.result.now upper c.in-ok-push-line.ensures c.in-ok-push-line-2.ensures (c.as-str.ensures.value ∙ c.in-ok-below.ensures) (c.as-str-2.ensures.value ∙ c.in-ok-kinds.ensures) in
+    let first : c.as_slice.result.now ≡ ns = c.as_slice.ensures.value ∙ c.in_ok-numbers.ensures in
+    let second : c.as_slice-2.result.now ≡ ns = c.as_slice-2.ensures.value ∙ c.in_ok-numbers.ensures in
+    let wide : w ≡ max (widest ns) (widest vs) = c.in_ok-width.ensures ∙ ap (λ (l : List ℕ). max (widest l) (widest vs)) first in
+    let upper : string_bytes c.in_ok-text.text ≡ number_line (codes "column") w ns ++ row_lines w vs c.args.rows 0 = c.in_ok-text.ensures ∙ ap (λ (l : List ℕ). number_line (codes "column") w l ++ row_lines w vs c.args.rows 0) second in
+    let drawn : string_bytes c.push_line-2.new.text ≡ number_line (codes "column") w ns ++ (row_lines w vs c.args.rows 0 ++ ((10 ∷ number_line (codes "value") w vs) ++ (10 ∷ (label (codes "kind") ++ kind_cells w ds (length vs) 0)))) =
+    two_lines (string_bytes c.in_ok-text.text) (string_bytes c.push_line.new.text) (string_bytes c.push_line-2.new.text) (number_line (codes "column") w ns) (row_lines w vs c.args.rows 0) (number_line (codes "value") w vs) (label (codes "kind") ++ kind_cells w ds (length vs) 0) c.as_str.result.now c.as_str-2.result.now upper c.in_ok-push_line.ensures c.in_ok-push_line-2.ensures (c.as_str.ensures.value ∙ c.in_ok-below.ensures) (c.as_str-2.ensures.value ∙ c.in_ok-kinds.ensures) in
     drawn ∙ ap (λ (x : ℕ). number_line (codes "column") x ns ++ (row_lines x vs c.args.rows 0 ++ ((10 ∷ number_line (codes "value") x vs) ++ (10 ∷ (label (codes "kind") ++ kind_cells x ds (length vs) 0))))) wide

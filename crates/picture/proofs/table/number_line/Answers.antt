@@ -8,9 +8,9 @@ loop-n-preserved c =
     let w : ℕ = c.args.width in
     let ns : List ℕ = c.args.numbers.now in
     let was : List ℕ = string_bytes c.loop-n.line in
-    let grown : string_bytes c.push-cell.new.line ≡ was ++ cell w (decimal (get_or ns c.loop-n.n-index 0)) =
-    c.in-ok-push-cell.ensures ∙ ap (λ (t : List ℕ). was ++ cell w t) (c.as-str.ensures.value ∙ c.in-ok-digits.ensures.ok) in
-    each_more (number_cells w) (λ n. cell w (decimal n)) (λ x xs. refl) 0 was (string_bytes c.push-cell.new.line) (label c.args.name.now ++ number_cells w ns) ns c.loop-n.n-index c.loop-n-test.true grown c.loop-n.invariant
+    let grown : string_bytes c.push_cell.new.line ≡ was ++ cell w (decimal (get_or ns c.loop-n.n-index 0)) =
+    c.in_ok-push_cell.ensures ∙ ap (λ (t : List ℕ). was ++ cell w t) (c.as_str.ensures.value ∙ c.in_ok-digits.ensures.ok) in
+    each_more (number_cells w) (λ n. cell w (decimal n)) (λ x xs. refl) 0 was (string_bytes c.push_cell.new.line) (label c.args.name.now ++ number_cells w ns) ns c.loop-n.n-index c.loop-n-test.true grown c.loop-n.invariant
 
 pub returns : goal.returns
 unfolding number_line

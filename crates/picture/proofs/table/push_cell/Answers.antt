@@ -13,4 +13,4 @@ cell_made was one two three text w s a b d e =
 pub returns : goal.returns
 unfolding cell encode
 returns c =
-    cell_made (string_bytes c.args.line.now) (string_bytes c.push.new.self) (string_bytes c.push-blanks.new.line) (string_bytes c.push-str.new.self) c.args.text.now c.args.width c.saturating-sub.result c.in-ok-push.ensures.bytes c.in-ok-push-blanks.ensures c.saturating-sub.ensures c.in-ok-push-str.ensures.bytes
+    cell_made (string_bytes c.args.line.now) (string_bytes c.push.new.self) (string_bytes c.push_blanks.new.line) (string_bytes c.push_str.new.self) c.args.text.now c.args.width c.saturating_sub.result c.in_ok-push.ensures.bytes c.in_ok-push_blanks.ensures c.saturating_sub.ensures c.in_ok-push_str.ensures.bytes

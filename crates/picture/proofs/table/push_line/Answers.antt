@@ -7,4 +7,4 @@ unfolding encode
 returns c =
     let was : List ℕ = string_bytes c.args.text.now in
     let line : List ℕ = c.args.line.now in
-    c.in-ok-push-str.ensures.bytes ∙ (ap (λ (l : List ℕ). l ++ line) c.in-ok-push.ensures.bytes ∙ append_assoc was (10 ∷ []) line)
+    c.in_ok-push_str.ensures.bytes ∙ (ap (λ (l : List ℕ). l ++ line) c.in_ok-push.ensures.bytes ∙ append_assoc was (10 ∷ []) line)

@@ -9,7 +9,7 @@ loop-v-preserved c =
     let vs : List ℕ = c.args.values.now in
     let was : List ℕ = vec_items c.loop-v.digits in
     let grown : vec_items c.push.new.self ≡ was ++ ((get_or vs c.loop-v.v-index 0 / 2 ^ i % 2) ∷ []) =
-    c.in-ok-push.ensures.items ∙ ap (λ (x : ℕ). was ++ (x ∷ [])) c.bit-of.ensures in
+    c.in_ok-push.ensures.items ∙ ap (λ (x : ℕ). was ++ (x ∷ [])) c.bit_of.ensures in
     each_more (row_of i) (λ v. (v / 2 ^ i % 2) ∷ []) (λ x xs. refl) 0 was (vec_items c.push.new.self) (row_of i vs) vs c.loop-v.v-index c.loop-v-test.true grown c.loop-v.invariant
 
 pub returns : goal.returns

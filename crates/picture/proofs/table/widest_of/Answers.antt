@@ -12,7 +12,7 @@ loop-n-preserved c =
     let k : ℕ = c.loop-n.n-index in
     let rest : ℕ = widest (drop (k + 1) ns) in
     let front : widest (drop k ns) ≡ max (length (decimal (get_or ns k 0))) rest = ap widest (drop_more ns k 0 c.loop-n-test.true) in
-    let more : c.max-most.result ≡ max (length (decimal (get_or ns k 0))) c.loop-n.most = c.max-most.ensures ∙ ap (λ (l : List ℕ). max (length l) c.loop-n.most) (c.as-str.ensures.value ∙ c.in-ok-digits.ensures.ok) in
+    let more : c.max-most.result ≡ max (length (decimal (get_or ns k 0))) c.loop-n.most = c.max-most.ensures ∙ ap (λ (l : List ℕ). max (length l) c.loop-n.most) (c.as_str.ensures.value ∙ c.in_ok-digits.ensures.ok) in
     ap (λ (x : ℕ). max rest x) more ∙ (sym (max_moves (length (decimal (get_or ns k 0))) rest c.loop-n.most) ∙ (ap (λ (x : ℕ). max x c.loop-n.most) (sym front) ∙ c.loop-n.invariant))
 
 pub returns : goal.returns

@@ -8,6 +8,6 @@ returns-in-Err c =
     let cs : List ℕ = columns_of c.args.code.now in
     let ds : List ℕ = data_of c.args.code.now in
     let word : ℕ = c.args.word in
-    let same : wide_word word c.column-count.result c.in-Err.refusal ≡ data_text cs ds word
-    = ap (λ n. wide_word word n c.in-Err.refusal) c.column-count.ensures ∙ ap (λ r. answer r (λ x. data_line word x (length ds)) (wide_word word (length cs))) c.in-Err.ensures.value in
-    subst (λ l. IfOk c.wide-word-line.result (λ t. string_bytes t ≡ l)) same c.wide-word-line.ensures
+    let same : wide_word word c.column_count.result c.in-Err.refusal ≡ data_text cs ds word
+    = ap (λ n. wide_word word n c.in-Err.refusal) c.column_count.ensures ∙ ap (λ r. answer r (λ x. data_line word x (length ds)) (wide_word word (length cs))) c.in-Err.ensures.value in
+    subst (λ l. IfOk c.wide_word_line.result (λ t. string_bytes t ≡ l)) same c.wide_word_line.ensures

@@ -8,6 +8,6 @@ returns-in-Err c =
     let cs : List ℕ = columns_of c.args.code.now in
     let ds : List ℕ = data_of c.args.code.now in
     let word : ℕ = c.args.word in
-    let same : wide_data_word word c.data-count.result c.in-Err.refusal ≡ encode_text cs ds word
-    = ap (λ n. wide_data_word word n c.in-Err.refusal) c.data-count.ensures ∙ ap (λ r. answer r (λ x. encode_line word x (length cs)) (wide_data_word word (length ds))) c.in-Err.ensures.value in
-    subst (λ l. IfOk c.wide-data-word-line.result (λ t. string_bytes t ≡ l)) same c.wide-data-word-line.ensures
+    let same : wide_data_word word c.data_count.result c.in-Err.refusal ≡ encode_text cs ds word
+    = ap (λ n. wide_data_word word n c.in-Err.refusal) c.data_count.ensures ∙ ap (λ r. answer r (λ x. encode_line word x (length cs)) (wide_data_word word (length ds))) c.in-Err.ensures.value in
+    subst (λ l. IfOk c.wide_data_word_line.result (λ t. string_bytes t ≡ l)) same c.wide_data_word_line.ensures

@@ -17,11 +17,11 @@ cut_off (b ∷ bs) rest h =
 
 pub returns-in-Some : goal.returns-in-Some
 returns-in-Some c =
-    let told = split_parts 35 c.args.line.now c.split-once.result c.split-once.ensures.cases (lit< tt) in
+    let told = split_parts 35 c.args.line.now c.split_once.result c.split_once.ensures.cases (lit< tt) in
     let here = MatchOption-at_some _ _ (c.in-Some.before, c.in-Some.field-0-1) c.in-Some.is told in
     sym (ap uncommented here.0 ∙ cut_off c.in-Some.before.now c.in-Some.field-0-1.now here.1)
 
 pub returns-in-None : goal.returns-in-None
 returns-in-None c =
-    let told = split_parts 35 c.args.line.now c.split-once.result c.split-once.ensures.cases (lit< tt) in
+    let told = split_parts 35 c.args.line.now c.split_once.result c.split_once.ensures.cases (lit< tt) in
     sym (kept c.args.line.now (MatchOption-at_none _ _ c.in-None.is told))

@@ -19,8 +19,8 @@ gain_then row i k g room one e = e ∙ (weight i room ∙ ap (λ (b : Bool). con
 gain_else : (row : List Bool) (i k g : ℕ) → get_or row k false ≡ false → g ≡ 0 → g ≡ cond (get_or row k false) (2 ^ i) 0
 gain_else row i k g none e = e ∙ ap (λ (b : Bool). cond b (2 ^ i) 0) (sym none)
 
-pub overflow-add-v : goal.overflow-add-v
-overflow-add-v c =
+pub overflow_add-v : goal.overflow_add-v
+overflow_add-v c =
     let few : c.if-row-k.gain ≤ 2 ^ c.args.i = elim c.if-row-k.branch [
       | then-row-k w ↦ omega (arith, w.gain-is, weight c.args.i c.requires.room)
       | else-row-k w ↦ omega (arith, w.gain-is)
@@ -35,7 +35,7 @@ loop-k-preserved c =
       | then-row-k w ↦ gain_then row c.args.i c.loop-k.k c.if-row-k.gain c.requires.room w.if-row-k.true w.gain-is
       | else-row-k w ↦ gain_else row c.args.i c.loop-k.k c.if-row-k.gain w.if-row-k.false w.gain-is
     ] in
-    stack_more _ _ _ c.args.above.now row c.args.i c.loop-k.k c.if-row-k.gain c.loop-k-test.true c.requires.wide gain c.in-ok-push.ensures.items c.loop-k.invariant
+    stack_more _ _ _ c.args.above.now row c.args.i c.loop-k.k c.if-row-k.gain c.loop-k-test.true c.requires.wide gain c.in_ok-push.ensures.items c.loop-k.invariant
 
 pub returns : goal.returns
 returns c =

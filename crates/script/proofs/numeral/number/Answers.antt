@@ -32,22 +32,22 @@ ok_back bs x h n small e = let w = written bs n small e in ap Ok (h.1 ∙ w.1)
 err_back : {P : Type 0} (bs : List ℕ) → (Number bs → ⊥) → (n : ℕ) → n < 2 ^ 64 → bs ≡ decimal n → P
 err_back bs not n small e = absurd (not (written bs n small e).0)
 
-pub returns-then-starts-with : goal.returns-then-starts-with
-returns-then-starts-with c =
+pub returns-then-starts_with : goal.returns-then-starts_with
+returns-then-starts_with c =
     let bs = c.args.word.now in
-    let plus : get_or bs 0 0 ≡ 43 = (starts_char 43 bs c.starts-with.result c.starts-with.ensures.cases (lit< tt) (lit< tt)).0 c.if-starts-with.true in
+    let plus : get_or bs 0 0 ≡ 43 = (starts_char 43 bs c.starts_with.result c.starts_with.ensures.cases (lit< tt) (lit< tt)).0 c.if-starts_with.true in
     record { reads = plus_never bs plus; back = λ n small e. err_back bs (plus_never bs plus) n small e }
 
 pub returns-in-Ok : goal.returns-in-Ok
 returns-in-Ok c =
     let bs = c.args.word.now in
-    let plain : (get_or bs 0 0 ≡ 43 → ⊥) = not_from_Decides c.starts-with.result (starts_char 43 bs c.starts-with.result c.starts-with.ensures.cases (lit< tt) (lit< tt)) c.if-starts-with.false in
+    let plain : (get_or bs 0 0 ≡ 43 → ⊥) = not_from_Decides c.starts_with.result (starts_char 43 bs c.starts_with.result c.starts_with.ensures.cases (lit< tt) (lit< tt)) c.if-starts_with.false in
     let reads = OkIff-at_ok c.parse.result (Number bs) (digits_value 10 bs) c.in-Ok.n (whole bs c.parse.result plain c.parse.ensures.value.0) c.in-Ok.is in
     record { reads = reads; back = ok_back bs c.in-Ok.n reads }
 
 pub returns-in-Err : goal.returns-in-Err
 returns-in-Err c =
     let bs = c.args.word.now in
-    let plain : (get_or bs 0 0 ≡ 43 → ⊥) = not_from_Decides c.starts-with.result (starts_char 43 bs c.starts-with.result c.starts-with.ensures.cases (lit< tt) (lit< tt)) c.if-starts-with.false in
+    let plain : (get_or bs 0 0 ≡ 43 → ⊥) = not_from_Decides c.starts_with.result (starts_char 43 bs c.starts_with.result c.starts_with.ensures.cases (lit< tt) (lit< tt)) c.if-starts_with.false in
     let not = OkIff-at_err c.parse.result (Number bs) (digits_value 10 bs) _ (whole bs c.parse.result plain c.parse.ensures.value.0) c.in-Err.is in
     record { reads = not; back = λ n small e. err_back bs not n small e }

@@ -20,32 +20,32 @@ one_passes c e cs = ap (λ (x : ℕ). stranger (x ∷ cs)) e
 pub loop-c-preserved-in-Continue· : goal.loop-c-preserved-in-Continue·
 loop-c-preserved-in-Continue· c =
     let here = c.if-c-eq48.true in
-    digit_more c.args.text.now (chars_rest c.loop-c.c-iterator) (chars_rest c.next.new.self) (vec_items c.loop-c.bits) (vec_items c.push.new.self) c.in-Some.c false c.loop-c.invariant c.in-Some.ensures.steps.0 (zero_reads c.in-Some.c here) (zero_passes c.in-Some.c here) c.in-ok-push.ensures.items
+    digit_more c.args.text.now (chars_rest c.loop-c.c-iterator) (chars_rest c.next.new.self) (vec_items c.loop-c.bits) (vec_items c.push.new.self) c.in-Some.c false c.loop-c.invariant c.in-Some.ensures.steps.0 (zero_reads c.in-Some.c here) (zero_passes c.in-Some.c here) c.in_ok-push.ensures.items
 
 pub loop-c-preserved-in-Continue·-branch-2 : goal.loop-c-preserved-in-Continue·-branch-2
 loop-c-preserved-in-Continue·-branch-2 c =
     let here = c.if-c-eq49.true in
-    digit_more c.args.text.now (chars_rest c.loop-c.c-iterator) (chars_rest c.next.new.self) (vec_items c.loop-c.bits) (vec_items c.push-then-c-eq49.new.self) c.in-Some.c true c.loop-c.invariant c.in-Some.ensures.steps.0 (one_reads c.in-Some.c here) (one_passes c.in-Some.c here) c.in-ok-push-2.ensures.items
+    digit_more c.args.text.now (chars_rest c.loop-c.c-iterator) (chars_rest c.next.new.self) (vec_items c.loop-c.bits) (vec_items c.push-then-c-eq49.new.self) c.in-Some.c true c.loop-c.invariant c.in-Some.ensures.steps.0 (one_reads c.in-Some.c here) (one_passes c.in-Some.c here) c.in_ok-push-2.ensures.items
 
 pub loop-c-preserved : goal.loop-c-preserved
 loop-c-preserved c =
-    white_more c.args.text.now (chars_rest c.loop-c.c-iterator) (chars_rest c.next.new.self) (vec_items c.loop-c.bits) c.in-Some.c c.loop-c.invariant c.in-Some.ensures.steps.0 (ne_eqb c.in-Some.c 48 c.if-c-eq48.false) (ne_eqb c.in-Some.c 49 c.if-c-eq49.false) (sym c.is-whitespace.ensures ∙ c.if-not-is-whitespace.false)
+    white_more c.args.text.now (chars_rest c.loop-c.c-iterator) (chars_rest c.next.new.self) (vec_items c.loop-c.bits) c.in-Some.c c.loop-c.invariant c.in-Some.ensures.steps.0 (ne_eqb c.in-Some.c 48 c.if-c-eq48.false) (ne_eqb c.in-Some.c 49 c.if-c-eq49.false) (sym c.is_whitespace.ensures ∙ c.if-not-is_whitespace.false)
 
-pub returns-in-err-push : goal.returns-in-err-push
-returns-in-err-push c =
-    let p = err_from_is_err_and c.from-residual.result c.from-residual.ensures.1 in
+pub returns-in_err-push : goal.returns-in_err-push
+returns-in_err-push c =
+    let p = err_from_is_err_and c.from_residual.result c.from_residual.ensures.1 in
     rw (p.1, p.2) (record { digits = tt; clean = tt; why = tt })
 
-pub returns-in-err-push-2 : goal.returns-in-err-push-2
-returns-in-err-push-2 c =
-    let p = err_from_is_err_and c.from-residual-in-err-push-2.result c.from-residual-in-err-push-2.ensures.1 in
+pub returns-in_err-push-2 : goal.returns-in_err-push-2
+returns-in_err-push-2 c =
+    let p = err_from_is_err_and c.from_residual-in_err-push-2.result c.from_residual-in_err-push-2.ensures.1 in
     rw (p.1, p.2) (record { digits = tt; clean = tt; why = tt })
 
-pub returns-then-not-is-whitespace : goal.returns-then-not-is-whitespace
-returns-then-not-is-whitespace c = record {
+pub returns-then-not-is_whitespace : goal.returns-then-not-is_whitespace
+returns-then-not-is_whitespace c = record {
   digits = tt;
   clean = tt;
-  why = at_stranger c.args.text.now (chars_rest c.loop-c.c-iterator) (chars_rest c.next.new.self) (vec_items c.loop-c.bits) c.in-Some.c c.loop-c.invariant c.in-Some.ensures.steps.0 (ne_eqb c.in-Some.c 48 c.if-c-eq48.false) (ne_eqb c.in-Some.c 49 c.if-c-eq49.false) (sym c.is-whitespace.ensures ∙ c.if-not-is-whitespace.true);
+  why = at_stranger c.args.text.now (chars_rest c.loop-c.c-iterator) (chars_rest c.next.new.self) (vec_items c.loop-c.bits) c.in-Some.c c.loop-c.invariant c.in-Some.ensures.steps.0 (ne_eqb c.in-Some.c 48 c.if-c-eq48.false) (ne_eqb c.in-Some.c 49 c.if-c-eq49.false) (sym c.is_whitespace.ensures ∙ c.if-not-is_whitespace.true);
 }
 
 pub returns : goal.returns

@@ -6,13 +6,13 @@ use Rattle.classes.proofs.Mixing.{items_pass}
 use Rattle.classes.proofs.Refusing.{tells}
 use Rattle.classes.proofs.mixed.Mixed.open.Goals as goal
 
-pub invariant-of-result : goal.invariant-of-result
-invariant-of-result c =
-    let good = items_pass c.args.width 0 c.args.items.now c.in-ok-check-items.ensures in
+pub invariant_of-result : goal.invariant_of-result
+invariant_of-result c =
+    let good = items_pass c.args.width 0 c.args.items.now c.in_ok-check_items.ensures in
     (omega arith, (omega arith, (c.kept.ensures.sized, (omega arith, (ap (good_items c.args.width) c.kept.ensures.front ∙ good, tt)))))
 
-pub returns-in-err-check-items : goal.returns-in-err-check-items
-returns-in-err-check-items c = record { opened = search rules; tells = tells c.args.width most_items (item_refusal c.args.width) c.args.items.now }
+pub returns-in_err-check_items : goal.returns-in_err-check_items
+returns-in_err-check_items c = record { opened = search rules; tells = tells c.args.width most_items (item_refusal c.args.width) c.args.items.now }
 
 pub returns : goal.returns
 returns c = record { opened = search rules; tells = tells c.args.width most_items (item_refusal c.args.width) c.args.items.now }

@@ -5,17 +5,17 @@ use Rattle.listings.specs.Items.{good_items}
 use Rattle.classes.proofs.Mixing.{good_push, item_passes, one_more}
 use Rattle.classes.proofs.mixed.Mixed.with_item.Goals as goal
 
-pub returns-in-err-check-item : goal.returns-in-err-check-item
-returns-in-err-check-item c =
+pub returns-in_err-check_item : goal.returns-in_err-check_item
+returns-in_err-check_item c =
     let s = c.args.self.now in
-    let p = err_from_is_err_and c.from-residual.result c.from-residual.ensures.1 in
-    rw (p.1, p.2) (one_more s.width s.size s.items c.args.item s.low s.high s.sized (omega arith) s.good ∙ c.in-err-check-item.ensures)
+    let p = err_from_is_err_and c.from_residual.result c.from_residual.ensures.1 in
+    rw (p.1, p.2) (one_more s.width s.size s.items c.args.item s.low s.high s.sized (omega arith) s.good ∙ c.in_err-check_item.ensures)
 
-pub invariant-of-result : goal.invariant-of-result
-invariant-of-result c =
+pub invariant_of-result : goal.invariant_of-result
+invariant_of-result c =
     let s = c.args.self.now in
     let item = c.args.item in
-    let good = good_push s.width (take s.size s.items) item s.good (item_passes s.width s.size item c.in-ok-check-item.ensures) in (
+    let good = good_push s.width (take s.size s.items) item s.good (item_passes s.width s.size item c.in_ok-check_item.ensures) in (
       s.low,
       (
         s.high,
@@ -30,7 +30,7 @@ pub returns : goal.returns
 returns c =
     let s = c.args.self.now in
     let item = c.args.item in (
-      one_more s.width s.size s.items item s.low s.high s.sized (omega arith) s.good ∙ c.in-ok-check-item.ensures,
+      one_more s.width s.size s.items item s.low s.high s.sized (omega arith) s.good ∙ c.in_ok-check_item.ensures,
       refl,
       take_more_set s.items s.size item (omega (arith, s.sized)),
     )

@@ -17,40 +17,51 @@ returns-in-Some c =
     let says : Refused cs ds (DataColumn c.in-Some.i) = (shape, found.0, found.1, found.2) in
     record { value = refused_says cs ds (DataColumn c.in-Some.i) says; meaning = says }
 
-pub returns-in-Some-high-value : goal.returns-in-Some-high-value
-returns-in-Some-high-value c =
+pub returns-in-Some-high_value : goal.returns-in-Some-high_value
+returns-in-Some-high_value c =
     let cs = c.args.values.now in
     let ds = c.args.numbers.now in
     let shape : Shape (length cs) (length ds) = omega arith in
-    let found = c.in-Some-high-value.ensures in
-    let says : Refused cs ds (ColumnValue c.in-Some-high-value.j) = (shape, c.in-default.ensures, found.0, found.1, found.2) in
-    record { value = refused_says cs ds (ColumnValue c.in-Some-high-value.j) says; meaning = says }
+    let found = c.in-Some-high_value.ensures in
+    let says : Refused cs ds (ColumnValue c.in-Some-high_value.j) = (shape, c.in_default.ensures, found.0, found.1, found.2) in
+    record { value = refused_says cs ds (ColumnValue c.in-Some-high_value.j) says; meaning = says }
 
-pub returns-in-default-check-columns : goal.returns-in-default-check-columns
-returns-in-default-check-columns c =
+pub returns-in_default-check_columns : goal.returns-in_default-check_columns
+returns-in_default-check_columns c =
     let cs = c.args.values.now in
     let ds = c.args.numbers.now in
     let shape : Shape (length cs) (length ds) = omega arith in
-    let says : Refused cs ds NotUnits = (shape, c.in-default.ensures, c.in-default-high-value.ensures, c.in-default-check-columns.ensures) in
+    let says : Refused cs ds NotUnits = (shape, c.in_default.ensures, c.in_default-high_value.ensures, c.in_default-check_columns.ensures) in
     record { value = refused_says cs ds NotUnits says; meaning = says }
 
-pub invariant-of-result : goal.invariant-of-result
-invariant-of-result c =
+pub invariant_of-result : goal.invariant_of-result
+invariant_of-result c =
     let cs = c.args.values.now in
     let ds = c.args.numbers.now in
     let r = length cs - length ds in
-    let us = c.in-Some-check-columns.checks in
+    let us = c.in-Some-check_columns.checks in
     let shape : Shape (length cs) (length ds) = omega arith in
     let many : length us ≡ most_checks = search rules in
     let many-values : length c.padded-values.result ≡ most_columns = search rules in
     let many-message : length c.padded-message.result ≡ most_columns = search rules in
-    let found = c.in-Some-check-columns.ensures in
+    let found = c.in-Some-check_columns.ensures in
     let l : Located cs ds (take r us) = located_take cs ds us r (omega arith) refl found.0 in
-    let w = wellformed_from cs ds (take r us) shape c.in-default.ensures c.in-default-high-value.ensures l found.1 in (
-      (many-values, many-message, many),
-      kept_from cs ds (take (length cs) c.padded-values.result) (take (length ds) c.padded-message.result) (take r us) (length cs) (length ds)
-          c.padded-values.ensures c.padded-message.ensures shape w l found.1,
-    )
+    let w = wellformed_from cs ds (take r us) shape c.in_default.ensures c.in_default-high_value.ensures l found.1 in
+    let kept =
+    kept_from cs ds (take (length cs) c.padded-values.result) (take (length ds) c.padded-message.result) (take r us) (length cs) (length ds)
+    c.padded-values.ensures c.padded-message.ensures shape w l found.1
+    in
+    record {
+      sized = (many-values, many-message, many);
+      shape = kept.shape;
+      inside = kept.inside;
+      rising = kept.rising;
+      narrow = kept.narrow;
+      placed = kept.placed;
+      aside = kept.aside;
+      units = kept.units;
+      covered = kept.covered;
+    }
 
 pub returns : goal.returns
 returns c =

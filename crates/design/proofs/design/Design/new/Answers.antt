@@ -13,8 +13,8 @@ none_refused n low high = rw (le-leb least_columns n low, le-leb n most_columns 
 pub unreachable-requires : goal.unreachable-requires
 unreachable-requires c =
     let shape = (every_code c.args.code).shape in
-    let n : ℕ = c.column-count.result in
-    let same : n ≡ length (columns_of c.args.code) = c.column-count.ensures in
+    let n : ℕ = c.column_count.result in
+    let same : n ≡ length (columns_of c.args.code) = c.column_count.ensures in
     let none : mixed_refusal n [] ≡ None = none_refused n (omega (arith, shape.0, same)) (omega (arith, shape.1, same)) in
     let refused : mixed_refusal n [] ≡ Some c.in-Err.field-0 = c.in-Err.ensures.opened in
     let z : ◌≡◌ {A = ℕ} 0 1 = cc in omega arith
