@@ -1,5 +1,5 @@
 -- Mixed errors: what items list, one after the other, is a class's listing.
-use Rattle.std.proofs.Common.{◌≡◌, ℕ, ◌-◌, ◌*◌, ◌^◌, ◌≤◌, true, eqb, List, [], ◌∷◌, length, take, subst, inl, inr, arith}
+use Rattle.std.proofs.Common.{◌≡◌, ℕ, ◌*◌, ◌^◌, ◌≤◌, true, eqb, List, [], ◌∷◌, length, take, subst, inl, inr, arith}
 use Rattle.std.proofs.lemmas.List.{length-append, length-take-le}
 use Rattle.std.proofs.lemmas.Bool.{and_parts, eqb-true, false≢true, leb-true, ltb-true, or_cases}
 use Rattle.code.specs.Limits.{least_columns, most_columns}

@@ -1,4 +1,4 @@
-use Rattle.std.proofs.Common.{◌≡◌, ℕ, ◌+◌, ◌-◌, List, ◌∷◌, ◌++◌, length, get_or, string_bytes, codes, refl, ap, ◌∙◌}
+use Rattle.std.proofs.Common.{◌≡◌, ℕ, List, ◌∷◌, ◌++◌, length, get_or, string_bytes, codes, refl, ap, ◌∙◌}
 use Rattle.picture.specs.Patterned.{pattern_line, pattern_lines}
 use Rattle.picture.specs.Pictured.{number_line}
 use Rattle.picture.proofs.Emits.{count_more}

@@ -16,4 +16,4 @@ step was after enc all n i w ch h hch asc grown inv =
 
 pub loop-i-preserved : goal.loop-i-preserved
 loop-i-preserved c =
-    step _ _ _ _ c.args.count c.loop-i.-i c.loop-i.rest c.from.result c.loop-i-test.true c.from.ensures c.push.ensures.ascii c.in_ok-push.ensures.bytes c.loop-i.invariant
+    step _ _ _ _ c.args.count c.loop-i._i c.loop-i.rest c.from.result c.loop-i-test.true c.from.ensures c.push.ensures.ascii c.in_ok-push.ensures.bytes c.loop-i.invariant

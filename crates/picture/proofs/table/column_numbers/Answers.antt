@@ -1,4 +1,4 @@
-use Rattle.std.proofs.Common.{◌-◌, [], ◌∷◌, vec_items, refl}
+use Rattle.std.proofs.Common.{[], ◌∷◌, vec_items, refl}
 use Rattle.std.specs.List.{range_with_len}
 use Rattle.picture.proofs.Emits.{count_more}
 use Rattle.picture.proofs.table.column_numbers.Goals as goal

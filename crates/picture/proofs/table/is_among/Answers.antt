@@ -1,4 +1,4 @@
-use Rattle.std.proofs.Common.{◌≡◌, ℕ, ◌-◌, eqb, List, refl}
+use Rattle.std.proofs.Common.{◌≡◌, ℕ, eqb, List, refl}
 use Rattle.code.specs.Search.{among}
 use Rattle.std.proofs.lemmas.List.Elements.{contains_decides}
 use Rattle.std.proofs.lemmas.Bool.Decides.{same_from_decides, Decides-by_or, Decides-eqb}

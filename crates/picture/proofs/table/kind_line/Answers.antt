@@ -1,4 +1,4 @@
-use Rattle.std.proofs.Common.{◌≡◌, ℕ, ◌+◌, ◌-◌, List, ◌++◌, string_bytes, codes, refl, ap, ◌∙◌}
+use Rattle.std.proofs.Common.{◌≡◌, ℕ, List, ◌++◌, string_bytes, codes, refl, ap, ◌∙◌}
 use Rattle.picture.specs.Pictured.{cell, kind, kind_cells, label}
 use Rattle.picture.proofs.Emits.{count_more}
 use Rattle.picture.proofs.table.kind_line.Goals as goal

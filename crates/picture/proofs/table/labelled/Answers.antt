@@ -1,4 +1,3 @@
-use Rattle.std.proofs.Common.{◌-◌}
 use Rattle.picture.specs.Pictured.{label}
 use Rattle.picture.proofs.table.labelled.Goals as goal
 

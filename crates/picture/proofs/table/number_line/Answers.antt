@@ -1,4 +1,4 @@
-use Rattle.std.proofs.Common.{◌≡◌, ℕ, ◌+◌, ◌-◌, List, ◌++◌, get_or, string_bytes, decimal, refl, ap, ◌∙◌}
+use Rattle.std.proofs.Common.{◌≡◌, ℕ, List, ◌++◌, get_or, string_bytes, decimal, refl, ap, ◌∙◌}
 use Rattle.picture.specs.Pictured.{cell, label, number_cells, number_line}
 use Rattle.picture.proofs.Emits.{each_more, each_all}
 use Rattle.picture.proofs.table.number_line.Goals as goal

@@ -3,4 +3,4 @@ use Rattle.picture.specs.Pictured.{blanks}
 use Rattle.picture.proofs.table.push_blanks.Given as goal
 
 abbrev pub invariant-loop-i : goal.invariant-loop-i
-invariant-loop-i l = string_bytes l.line ++ blanks (l.count - l.-i) ≡ string_bytes l.initial.line ++ blanks l.count
+invariant-loop-i l = string_bytes l.line ++ blanks (l.count - l._i) ≡ string_bytes l.initial.line ++ blanks l.count

@@ -1,4 +1,4 @@
-use Rattle.std.proofs.Common.{◌≡◌, ℕ, ◌+◌, ◌-◌, List, [], ◌∷◌, ◌++◌, length, string_bytes, ap, ◌∙◌, append_assoc}
+use Rattle.std.proofs.Common.{◌≡◌, ℕ, ◌-◌, List, [], ◌∷◌, ◌++◌, length, string_bytes, ap, ◌∙◌, append_assoc}
 use lib.Utf8.{encode}
 use Rattle.picture.specs.Pictured.{blanks, cell}
 use Rattle.picture.proofs.table.push_cell.Goals as goal

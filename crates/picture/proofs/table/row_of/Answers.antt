@@ -1,4 +1,4 @@
-use Rattle.std.proofs.Common.{◌≡◌, ℕ, ◌+◌, ◌-◌, ◌/◌, ◌%◌, ◌^◌, List, [], ◌∷◌, ◌++◌, get_or, vec_items, refl, ap, ◌∙◌}
+use Rattle.std.proofs.Common.{◌≡◌, ℕ, ◌/◌, ◌%◌, ◌^◌, List, [], ◌∷◌, ◌++◌, get_or, vec_items, refl, ap, ◌∙◌}
 use Rattle.picture.specs.Pictured.{row_of}
 use Rattle.picture.proofs.Emits.{each_more, each_all}
 use Rattle.picture.proofs.table.row_of.Goals as goal

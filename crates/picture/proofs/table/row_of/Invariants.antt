@@ -1,4 +1,4 @@
-use Rattle.std.proofs.Common.{◌≡◌, ◌-◌, ◌++◌, drop, vec_items}
+use Rattle.std.proofs.Common.{◌≡◌, ◌++◌, drop, vec_items}
 use Rattle.picture.specs.Pictured.{row_of}
 use Rattle.picture.proofs.table.row_of.Given as goal
 

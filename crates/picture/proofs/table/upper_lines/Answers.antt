@@ -1,4 +1,4 @@
-use Rattle.std.proofs.Common.{◌≡◌, ℕ, ◌+◌, ◌-◌, List, ◌∷◌, ◌++◌, string_bytes, codes, decimal, refl, ap, ◌∙◌}
+use Rattle.std.proofs.Common.{◌≡◌, ℕ, List, ◌∷◌, ◌++◌, string_bytes, codes, decimal, refl, ap, ◌∙◌}
 use Rattle.picture.specs.Pictured.{number_line, row_lines, row_of}
 use Rattle.picture.proofs.Emits.{count_more}
 use Rattle.picture.proofs.table.upper_lines.Goals as goal

@@ -1,4 +1,4 @@
-use Rattle.std.proofs.Common.{◌≡◌, ℕ, ◌+◌, ◌-◌, max, List, length, get_or, drop, decimal, sym, ap, ◌∙◌, arith}
+use Rattle.std.proofs.Common.{◌≡◌, ℕ, ◌+◌, max, List, length, get_or, drop, decimal, sym, ap, ◌∙◌, arith}
 use Rattle.picture.specs.Pictured.{widest}
 use Rattle.std.proofs.lemmas.List.{drop_more, drop_all}
 use Rattle.picture.proofs.table.widest_of.Goals as goal

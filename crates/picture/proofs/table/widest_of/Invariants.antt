@@ -1,4 +1,4 @@
-use Rattle.std.proofs.Common.{◌≡◌, ◌-◌, max, drop}
+use Rattle.std.proofs.Common.{◌≡◌, max, drop}
 use Rattle.picture.specs.Pictured.{widest}
 use Rattle.picture.proofs.table.widest_of.Given as goal
 

@@ -9,7 +9,13 @@ use Rattle.classes.proofs.mixed.Mixed.open.Goals as goal
 pub invariant_of-result : goal.invariant_of-result
 invariant_of-result c =
     let good = items_pass c.args.width 0 c.args.items.now c.in_ok-check_items.ensures in
-    (omega arith, (omega arith, (c.kept.ensures.sized, (omega arith, (ap (good_items c.args.width) c.kept.ensures.front ∙ good, tt)))))
+    record {
+      low = omega arith;
+      high = omega arith;
+      sized = c.kept.ensures.sized;
+      few = omega arith;
+      good = ap (good_items c.args.width) c.kept.ensures.front ∙ good;
+    }
 
 pub returns-in_err-check_items : goal.returns-in_err-check_items
 returns-in_err-check_items c = record { opened = search rules; tells = tells c.args.width most_items (item_refusal c.args.width) c.args.items.now }

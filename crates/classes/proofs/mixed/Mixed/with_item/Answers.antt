@@ -15,16 +15,14 @@ pub invariant_of-result : goal.invariant_of-result
 invariant_of-result c =
     let s = c.args.self.now in
     let item = c.args.item in
-    let good = good_push s.width (take s.size s.items) item s.good (item_passes s.width s.size item c.in_ok-check_item.ensures) in (
-      s.low,
-      (
-        s.high,
-        (
-          length-set s.items s.size item ∙ s.sized,
-          (omega arith, (ap (good_items s.width) (take_more_set s.items s.size item (omega (arith, s.sized))) ∙ good, tt)),
-        ),
-      ),
-    )
+    let good = good_push s.width (take s.size s.items) item s.good (item_passes s.width s.size item c.in_ok-check_item.ensures) in
+    record {
+      low = s.low;
+      high = s.high;
+      sized = length-set s.items s.size item ∙ s.sized;
+      few = omega arith;
+      good = ap (good_items s.width) (take_more_set s.items s.size item (omega (arith, s.sized))) ∙ good;
+    }
 
 pub returns : goal.returns
 returns c =
