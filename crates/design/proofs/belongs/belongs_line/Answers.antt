@@ -3,7 +3,7 @@ use Rattle.code.specs.Search.{among}
 use Rattle.classes.specs.Meaning.{patterns_of}
 use Rattle.classes.specs.declared.mixed.Mixed.{Mixed}
 use Rattle.design.specs.Meaning.{class_of}
-use Rattle.design.specs.Texts.{duty_name, yes_or_no}
+use Rattle.design.specs.Texts.{yes_or_no}
 use Rattle.design.proofs.belongs.belongs_line.Goals as goal
 
 pub returns : goal.returns

@@ -8,4 +8,4 @@ returns-in-Err g c =
 
 pub loop-i-preserved : goal.loop-i-preserved
 loop-i-preserved g c =
-    more_read (g.C.ErrorClass.patterns c.args.class.now) (vec_items c.loop-i.listed) (vec_items c.push.new.self) c.loop-i.i c.in-Ok.pattern c.pattern_at.result c.pattern_at.ensures c.in-Ok.is c.loop-i.invariant c.in_ok-push.ensures.items
+    more_read (g.C.ErrorClass.patterns c.args.class.now) (vec_items c.loop-i.listed) (vec_items c.push.new.self) c.loop-i.i c.in-Ok.pattern c.pattern_at.result c.pattern_at.ensures c.in-Ok.is c.loop-i.invariant c.in_ok-push-in-Ok.ensures.items
