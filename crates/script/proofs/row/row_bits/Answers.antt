@@ -17,13 +17,13 @@ one_reads c e cs = ap (λ (x : ℕ). row_digits (x ∷ cs)) e
 one_passes : (c : ℕ) → c ≡ 49 → (cs : List ℕ) → stranger (c ∷ cs) ≡ stranger cs
 one_passes c e cs = ap (λ (x : ℕ). stranger (x ∷ cs)) e
 
-pub loop-c-preserved-in-Continue· : goal.loop-c-preserved-in-Continue·
-loop-c-preserved-in-Continue· c =
+pub loop-c-preserved-in-Continue-1 : goal.loop-c-preserved-in-Continue-1
+loop-c-preserved-in-Continue-1 c =
     let here = c.if-c-eq48.true in
     digit_more c.args.text.now (chars_rest c.loop-c.c-iterator) (chars_rest c.next.new.self) (vec_items c.loop-c.bits) (vec_items c.push.new.self) c.in-Some.c false c.loop-c.invariant c.in-Some.ensures.steps.0 (zero_reads c.in-Some.c here) (zero_passes c.in-Some.c here) c.in_ok-push.ensures.items
 
-pub loop-c-preserved-in-Continue·-branch-2 : goal.loop-c-preserved-in-Continue·-branch-2
-loop-c-preserved-in-Continue·-branch-2 c =
+pub loop-c-preserved-in-Continue-branch-2 : goal.loop-c-preserved-in-Continue-branch-2
+loop-c-preserved-in-Continue-branch-2 c =
     let here = c.if-c-eq49.true in
     digit_more c.args.text.now (chars_rest c.loop-c.c-iterator) (chars_rest c.next.new.self) (vec_items c.loop-c.bits) (vec_items c.push-then-c-eq49.new.self) c.in-Some.c true c.loop-c.invariant c.in-Some.ensures.steps.0 (one_reads c.in-Some.c here) (one_passes c.in-Some.c here) c.in_ok-push-2.ensures.items
 

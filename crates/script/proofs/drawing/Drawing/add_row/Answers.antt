@@ -7,7 +7,7 @@ use Rattle.script.proofs.drawing.Drawing.add_row.Goals as goal
 pub stack-requires : goal.stack-requires
 stack-requires c =
     let row = c.args.row.now in
-    let blank : c.as_slice.result.now ≡ replicate (length row) 0 = c.as_slice.ensures.value ∙ c.in_ok-blank.ensures.items-if-clones-equal (λ y h. search rules) in
+    let blank : c.as_slice.result.now ≡ replicate (length row) 0 = c.as_slice.ensures.value ∙ c.in_ok-blank.ensures.items_if_clones_equal (λ y h. search rules) in
     record {
       room = omega arith;
       wide = ap length blank ∙ length-replicate (length row) 0;
