@@ -48,8 +48,8 @@ invariant_of-result c =
     let l : Located cs ds (take r us) = located_take cs ds us r (omega arith) refl found.0 in
     let w = wellformed_from cs ds (take r us) shape c.in_default.ensures c.in_default-high_value.ensures l found.1 in
     let kept =
-        kept_from cs ds (take (length cs) c.padded-values.result) (take (length ds) c.padded-message.result) (take r us) (length cs) (length ds)
-        c.padded-values.ensures c.padded-message.ensures shape w l found.1
+    kept_from cs ds (take (length cs) c.padded-values.result) (take (length ds) c.padded-message.result) (take r us) (length cs) (length ds)
+    c.padded-values.ensures c.padded-message.ensures shape w l found.1
     in
     let sized : (length c.padded-values.result ≡ most_columns) × (length c.padded-message.result ≡ most_columns) × (length us ≡ most_checks) = (many-values, many-message, many) in
     assumption (kept, sized)
