@@ -24,7 +24,7 @@ abbrev pub data_line : ℕ → ℕ → ℕ → List ℕ
 data_line word message count = word_line (codes "data ") word message (codes " (bits ") (drawn count message)
 
 abbrev pub opened_line : ℕ → ℕ → ℕ → List ℕ
-opened_line columns data-count checks = codes "code of " ++ (decimal columns ++ (codes " columns: " ++ (decimal data-count ++ (codes " data, " ++ (decimal checks ++ codes " check")))))
+opened_line columns data_count checks = codes "code of " ++ (decimal columns ++ (codes " columns: " ++ (decimal data_count ++ (codes " data, " ++ (decimal checks ++ codes " check")))))
 
 abbrev pub unfinished_line : ℕ → List ℕ
 unfinished_line line = codes "the script ends, and the drawing that is open since line " ++ (decimal line ++ codes " has no 'data'")

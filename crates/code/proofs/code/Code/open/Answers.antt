@@ -42,8 +42,8 @@ invariant_of-result c =
     let us = c.in-Some-check_columns.checks in
     let shape : Shape (length cs) (length ds) = omega arith in
     let many : length us ≡ most_checks = search rules in
-    let many-values : length c.padded-values.result ≡ most_columns = search rules in
-    let many-message : length c.padded-message.result ≡ most_columns = search rules in
+    let many_values : length c.padded-values.result ≡ most_columns = search rules in
+    let many_message : length c.padded-message.result ≡ most_columns = search rules in
     let found = c.in-Some-check_columns.ensures in
     let l : Located cs ds (take r us) = located_take cs ds us r (omega arith) refl found.0 in
     let w = wellformed_from cs ds (take r us) shape c.in_default.ensures c.in_default-high_value.ensures l found.1 in
@@ -51,7 +51,7 @@ invariant_of-result c =
     kept_from cs ds (take (length cs) c.padded-values.result) (take (length ds) c.padded-message.result) (take r us) (length cs) (length ds)
     c.padded-values.ensures c.padded-message.ensures shape w l found.1
     in
-    let sized : (length c.padded-values.result ≡ most_columns) × (length c.padded-message.result ≡ most_columns) × (length us ≡ most_checks) = (many-values, many-message, many) in
+    let sized : (length c.padded-values.result ≡ most_columns) × (length c.padded-message.result ≡ most_columns) × (length us ≡ most_checks) = (many_values, many_message, many) in
     assumption (kept, sized)
 
 pub returns : goal.returns
