@@ -1,10 +1,9 @@
 -- The detectable patterns: listed by the second class and not by the first.
-use Rattle.std.proofs.Common.{◌≡◌, ℕ, ◌+◌, ◌<◌, Bool, true, cond, not, ◌||◌, eqb, List, [], ◌∷◌, length, get_or, take, filter, sym, ap, ◌∙◌, subst, ap₂, inl, inr}
-use Rattle.std.proofs.lemmas.List.Filters.{length-filter_more}
+use Rattle.std.proofs.Common.{◌≡◌, ℕ, Bool, true, not, ◌||◌, eqb, List, [], ◌∷◌, filter, sym, subst, inl, inr}
 use Rattle.std.proofs.lemmas.Bool.{cases_Bool, eqb-true, false≢true, not_from_false, not-true, or_cases, or_left, or_right}
 use Rattle.code.specs.Search.{among}
 use Rattle.listings.specs.Lawful.{Lawful}
-use Rattle.classes.specs.Duties.{detectable, Detects}
+use Rattle.classes.specs.Duties.{Detects}
 
 -- a filter keeps just what passes
 kept_only : (test : ℕ → Bool) (qs : List ℕ) (q : ℕ) → among (filter test qs) q ≡ true → (among qs q ≡ true) × (test q ≡ true)
@@ -39,9 +38,3 @@ detects m ps qs law q = (
 )
 
 -- ---- one more place of the second listing
-
-pub count_more : (ps qs : List ℕ) (i count p : ℕ) (t : Bool) → i < length qs → p ≡ get_or qs i 0 → among ps p ≡ t → count ≡ length (detectable ps (take i qs))
-    → count + cond (not t) 1 0 ≡ length (detectable ps (take (i + 1) qs))
-count_more ps qs i count p t h at e inv =
-    let more = length-filter_more (λ x. not (among ps x)) qs i 0 h in
-    ap₂ (λ a b. a + cond (not b) 1 0) inv (sym e ∙ ap (among ps) at) ∙ sym more

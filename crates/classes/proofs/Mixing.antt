@@ -1,26 +1,22 @@
 -- The steps of loops over items, and which items pass an opening.
-use Rattle.std.proofs.Common.{◌≡◌, ℕ, zero, suc, ◌+◌, ◌-◌, ◌^◌, ◌<◌, ◌≤◌, Bool, true, false, ◌||◌, eqb, ltb, leb, List, [], ◌∷◌, ◌++◌, length, get_or, take, drop, None, Ok, Err, Option, sym, refl, ap, ◌∙◌, subst, inl, inr, arith}
-use Rattle.std.proofs.lemmas.List.{at_drop_more, at_drop_all, length-append, length_push, length-take-le}
+use Rattle.std.proofs.Common.{◌≡◌, ℕ, zero, suc, ◌+◌, ◌^◌, ◌<◌, ◌≤◌, Bool, true, ◌||◌, eqb, ltb, leb, List, [], ◌∷◌, ◌++◌, length, get_or, drop, None, sym, refl, ap, ◌∙◌, subst, inl, inr, arith}
+use Rattle.std.proofs.lemmas.List.{at_drop_more, length-append, length_push}
 use Rattle.std.proofs.lemmas.Bool.{and_parts, and_from, eqb-true, false≢true, le-leb, leb-true, ltb-true, or_cases}
+use Rattle.std.proofs.lemmas.List.Folds.{list_all-append}
 use Rattle.code.specs.Limits.{least_columns, most_columns}
 use Rattle.code.specs.Opening.{unless}
 use Rattle.code.specs.Search.{among}
-use Rattle.code.specs.declared.refusal.Refusal.{Refusal}
-use Rattle.code.specs.declared.refusal.Refusal.TheVariants.{BeyondEnd, OutOfBoundsAt, TooWideAt}
+use Rattle.code.specs.declared.refusal.Refusal.TheVariants.{OutOfBoundsAt, TooWideAt}
 use Rattle.listings.specs.Items.{listing, mixed, good_ones, good_run, good_item, good_items}
-use Rattle.listings.specs.Lawful.{Pattern, Patterns, pattern_at}
+use Rattle.listings.specs.Lawful.{Pattern, Patterns}
 use Rattle.listings.specs.Limits.{most_items}
 use Rattle.listings.specs.declared.item.Item.{Item}
 use Rattle.listings.specs.declared.item.Item.TheVariants.{Random, Burst, Mask}
-use Rattle.listings.proofs.Members.{among_append, at_left, at_past, at_right}
+use Rattle.listings.proofs.Members.{among_append}
 use Rattle.classes.specs.Opening.{or_else, first_refusal, item_refusal, mask_refusal, mixed_refusal}
-use Rattle.classes.proofs.Refusing.{both, refusal_push}
+use Rattle.classes.proofs.Refusing.{both, passed, refusal_push}
 
 -- ---- which items pass
-
-passed : (b : Bool) (r : Refusal) (o : Option Refusal) → unless b r o ≡ None → (b ≡ true) × (o ≡ None)
-passed true r o e = (refl, e)
-passed false r o e = let z : ◌≡◌ {A = ℕ} 0 1 = cc in absurd (omega arith)
 
 mask_passes : (n i m : ℕ) → mask_refusal n i m ≡ None → (leb 1 m ≡ true) × (ltb m (2 ^ n) ≡ true)
 mask_passes n i m e =
@@ -60,22 +56,25 @@ good_items_pass n i (item ∷ items) g =
     ap (λ o. or_else o (first_refusal (item_refusal n) (i + 1) items)) (good_refuses_nothing n i item p.0) ∙ good_items_pass n (i + 1) items p.1
 
 pub good_push : (n : ℕ) (items : List Item) (item : Item) → good_items n items ≡ true → good_item n item ≡ true → good_items n (items ++ (item ∷ [])) ≡ true
-good_push n [] item g h = and_from _ _ h refl
-good_push n (x ∷ xs) item g h = let p = and_parts _ _ g in and_from _ _ p.0 (good_push n xs item p.1 h)
+good_push n items item g h = list_all-append (good_item n) items (item ∷ []) ∙ and_from _ _ g (and_from _ _ h refl)
 
--- what opening says of the first k items of an array and one more
-pub one_more : (n k : ℕ) (items : List Item) (item : Item) → least_columns ≤ n → n ≤ most_columns → length items ≡ most_items → k < most_items → good_items n (take k items) ≡ true
-    → mixed_refusal n (take k items ++ (item ∷ [])) ≡ item_refusal n k item
-one_more n k items item a b s f g =
-    let l = length-take-le k items (omega arith) in
-    let m = length_push (take k items) item in
-    let here : first_refusal (item_refusal n) 0 (take k items ++ (item ∷ [])) ≡ item_refusal n k item = refusal_push (item_refusal n) 0 k (take k items) item (omega arith) (good_items_pass n 0 (take k items) g) in
-    rw (le-leb least_columns n a, le-leb n most_columns b, le-leb (length (take k items ++ (item ∷ []))) most_items (omega arith)) here
+-- what opening says of items that pass and one more
+pub one_more : (n : ℕ) (items : List Item) (item : Item) → least_columns ≤ n → n ≤ most_columns → length items < most_items → good_items n items ≡ true
+    → mixed_refusal n (items ++ (item ∷ [])) ≡ item_refusal n (length items) item
+one_more n items item a b f g =
+    let m = length_push items item in
+    let here : first_refusal (item_refusal n) 0 (items ++ (item ∷ [])) ≡ item_refusal n (length items) item
+    = refusal_push (item_refusal n) 0 (length items) items item (omega arith) (good_items_pass n 0 items g) in
+    rw (le-leb least_columns n a, le-leb n most_columns b, le-leb (length (items ++ (item ∷ []))) most_items (omega arith)) here
 
 pub good_at : (n : ℕ) (items : List Item) (i : ℕ) (d : Item) → i < length items → good_items n items ≡ true → good_item n (get_or items i d) ≡ true
 good_at n [] i d h g = absurd (omega arith)
 good_at n (x ∷ xs) zero d h g = (and_parts _ _ g).0
 good_at n (x ∷ xs) (suc i) d h g = good_at n xs i d (omega arith) (and_parts _ _ g).1
+
+-- the same of the items as a class lends them
+pub lent_good : (n : ℕ) (items kept : List Item) (i : ℕ) (d : Item) → items ≡ kept → i < length items → good_items n kept ≡ true → good_item n (get_or items i d) ≡ true
+lent_good n items kept i d e h g = good_at n items i d h (subst (λ xs. good_items n xs ≡ true) (sym e) g)
 
 -- ---- how many patterns
 
@@ -88,22 +87,6 @@ count_more n items i total count all d h c inv =
     let e = ap length (mixed_more n items i d h) in
     let l = length-append (listing n (get_or items i d)) (mixed n (drop (i + 1) items)) in omega arith
 
-pub count_all : (n : ℕ) (items : List Item) (i total all : ℕ) → length items ≤ i → total + length (mixed n (drop i items)) ≡ all → total ≡ all
-count_all n items i total all h inv = let e : length (mixed n (drop i items)) ≡ 0 = ap length (at_drop_all (mixed n) items i h) in omega arith
-
--- ---- the pattern at a number
-
-pub at_here : (n : ℕ) (items : List Item) (i rest : ℕ) (d : Item) → i < length items → rest < length (listing n (get_or items i d))
-    → pattern_at (mixed n (drop i items)) rest ≡ Ok (get_or (listing n (get_or items i d)) rest 0)
-at_here n items i rest d h l = ap (λ ps. pattern_at ps rest) (mixed_more n items i d h) ∙ at_left (listing n (get_or items i d)) (mixed n (drop (i + 1) items)) rest l
-
-pub at_later : (n : ℕ) (items : List Item) (i rest : ℕ) (d : Item) → i < length items → length (listing n (get_or items i d)) ≤ rest
-    → pattern_at (mixed n (drop i items)) rest ≡ pattern_at (mixed n (drop (i + 1) items)) (rest - length (listing n (get_or items i d)))
-at_later n items i rest d h l = ap (λ ps. pattern_at ps rest) (mixed_more n items i d h) ∙ at_right (listing n (get_or items i d)) (mixed n (drop (i + 1) items)) rest l
-
-pub at_none : (n : ℕ) (items : List Item) (i rest : ℕ) → length items ≤ i → pattern_at (mixed n (drop i items)) rest ≡ Err BeyondEnd
-at_none n items i rest h = ap (λ ps. pattern_at ps rest) (at_drop_all (mixed n) items i h) ∙ sym (at_past [] rest (omega arith))
-
 -- ---- which masks are listed
 
 pub holds_more : (n : ℕ) (items : List Item) (i m : ℕ) (d : Item) (t : Bool) → i < length items → t ≡ among (listing n (get_or items i d)) m
@@ -111,6 +94,3 @@ pub holds_more : (n : ℕ) (items : List Item) (i m : ℕ) (d : Item) (t : Bool)
 holds_more n items i m d t h e =
     ap (λ ps. among ps m) (mixed_more n items i d h)
     ∙ (among_append (listing n (get_or items i d)) (mixed n (drop (i + 1) items)) m ∙ ap (λ b. b || among (mixed n (drop (i + 1) items)) m) (sym e))
-
-pub holds_none : (n : ℕ) (items : List Item) (i m : ℕ) → length items ≤ i → among (mixed n (drop i items)) m ≡ false
-holds_none n items i m h = ap (λ ps. among ps m) (at_drop_all (mixed n) items i h)

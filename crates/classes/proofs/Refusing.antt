@@ -1,12 +1,12 @@
 -- The first refusal of some elements: the steps of a loop that looks for it, and what an opening that refuses nothing knows.
-use Rattle.std.proofs.Common.{◌≡◌, ℕ, zero, suc, ◌+◌, ◌<◌, ◌≤◌, leb, ◌⊎◌, List, [], ◌∷◌, ◌++◌, length, get_or, drop, Some, None, Option, sym, refl, ap, ◌∙◌, subst, inl, inr, add-zero, zero-add, arith}
+use Rattle.std.proofs.Common.{◌≡◌, ℕ, zero, suc, ◌+◌, ◌<◌, ◌≤◌, Bool, true, false, leb, ◌⊎◌, List, [], ◌∷◌, ◌++◌, length, get_or, drop, Some, None, Option, sym, refl, ap, ◌∙◌, subst, inl, inr, add-zero, zero-add, arith}
 use Rattle.std.proofs.lemmas.List.{at_drop_more, at_drop_all}
 use Rattle.std.proofs.lemmas.Bool.{and_from, and_parts, both_ways, cases_Bool, le-leb, leb-true}
 use Rattle.code.specs.Limits.{least_columns, most_columns}
 use Rattle.code.specs.Opening.{unless}
 use Rattle.code.specs.declared.refusal.Refusal.{Refusal}
 use Rattle.code.specs.declared.refusal.Refusal.TheVariants.{OutOfBounds}
-use Rattle.classes.specs.Opening.{Fit, Tells, good_width, or_else, first_refusal}
+use Rattle.classes.specs.Opening.{Fit, Tells, good_width, or_else, first_refusal, elements_refusal}
 
 -- the element at i is refused, and none before
 pub refused_here : {X : Type 0} (f : ℕ → X → Option Refusal) (xs : List X) (i : ℕ) (d : X) (e : Refusal) (all : Option Refusal) → i < length xs → f i (get_or xs i d) ≡ Some e
@@ -22,6 +22,10 @@ passed_here f xs i d all h r inv =
 
 pub passed_all : {X : Type 0} (f : ℕ → X → Option Refusal) (xs : List X) (i : ℕ) (all : Option Refusal) → length xs ≤ i → first_refusal f i (drop i xs) ≡ all → all ≡ None
 passed_all f xs i all h inv = sym inv ∙ at_drop_all (first_refusal f i) xs i h
+
+pub passed : (b : Bool) (r : Refusal) (o : Option Refusal) → unless b r o ≡ None → (b ≡ true) × (o ≡ None)
+passed true r o e = (refl, e)
+passed false r o e = let z : ◌≡◌ {A = ℕ} 0 1 = cc in absurd (omega arith)
 
 -- neither of two is refused
 pub both : (a b : Option Refusal) → or_else a b ≡ None → (a ≡ None) × (b ≡ None)
@@ -95,3 +99,14 @@ refusal_push f i j [] x s e = last (f i x) ∙ ap (λ k. f k x) (sym (add-zero i
 refusal_push f i j (y ∷ ys) x s e =
     let p = both (f i y) _ e in
     ap (λ o. or_else o (first_refusal f (i + 1) (ys ++ (x ∷ [])))) p.0 ∙ refusal_push f (i + 1) j ys x (omega arith) p.1
+
+-- in bounds, an opening refuses the first element that is not taken
+pub decided : {X : Type 0} (f : ℕ → X → Option Refusal) (most n : ℕ) (xs : List X) → good_width n ≡ true → length xs ≤ most → elements_refusal most f n xs ≡ first_refusal f 0 xs
+decided f most n xs g l = rw (g, le-leb (length xs) most l) refl
+
+-- what is known where it refuses nothing
+pub settled : {X : Type 0} (f : ℕ → X → Option Refusal) (most n : ℕ) (xs : List X) → elements_refusal most f n xs ≡ None → (length xs ≤ most) × (first_refusal f 0 xs ≡ None)
+settled f most n xs e =
+    let p = passed (good_width n) OutOfBounds _ e in
+    let q = passed (leb (length xs) most) OutOfBounds (first_refusal f 0 xs) p.1 in
+    (leb-true (length xs) most q.0, q.1)

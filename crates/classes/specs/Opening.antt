@@ -36,11 +36,15 @@ abbrev pub first_refusal : {X : Type 0} → (ℕ → X → Option Refusal) → �
 first_refusal refusal i [] = None
 first_refusal refusal i (x ∷ xs) = or_else (refusal i x) (first_refusal refusal (i + 1) xs)
 
+-- what an opening with at most `most` elements refuses
+abbrev pub elements_refusal : {X : Type 0} → ℕ → (ℕ → X → Option Refusal) → ℕ → List X → Option Refusal
+elements_refusal most refusal n xs = unless (good_width n) OutOfBounds (unless (nat_le (length xs) most) OutOfBounds (first_refusal refusal 0 xs))
+
 abbrev pub listed_refusal : ℕ → List ℕ → Option Refusal
-listed_refusal n masks = unless (good_width n) OutOfBounds (unless (nat_le (length masks) most_patterns) OutOfBounds (first_refusal (mask_refusal n) 0 masks))
+listed_refusal n masks = elements_refusal most_patterns (mask_refusal n) n masks
 
 abbrev pub mixed_refusal : ℕ → List Item → Option Refusal
-mixed_refusal n items = unless (good_width n) OutOfBounds (unless (nat_le (length items) most_items) OutOfBounds (first_refusal (item_refusal n) 0 items))
+mixed_refusal n items = elements_refusal most_items (item_refusal n) n items
 
 -- ---- the same in words
 

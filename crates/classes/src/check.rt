@@ -1,65 +1,68 @@
-ghost use Rattle.std.specs.Prelude.{◌≡◌, ◌≤◌, Some, None, MatchResult};
-ghost use Rattle.code.specs.Limits.{most_columns};
-ghost use Rattle.classes.specs.Opening.{first_refusal, item_refusal, mask_refusal};
+ghost use Rattle.std.specs.Prelude.{◌≡◌, ℕ, Some, None, Option, MatchResult};
+ghost use Rattle.code.specs.declared.refusal.Refusal.{Refusal};
+ghost use Rattle.classes.specs.Opening.{Tells, elements_refusal, item_refusal, mask_refusal};
 
-use crate::words::power;
+use crate::width::Width;
 use code::Refusal;
-use listings::{Item, LEAST_RUN, MOST_ONES, MOST_RUN};
+use listings::Item;
 
-// What opening refuses of the mask at an index.
-pub(crate) fn check_mask(width: usize, i: usize, mask: u64) -> Result<(), Refusal>
-    requires { width ≤ most_columns }
-    ensures { MatchResult result (λ _. mask_refusal width i mask ≡ None) (λ e. mask_refusal width i mask ≡ Some e) }
-{
-    if mask == 0 {
-        return Err(Refusal::OutOfBoundsAt(i));
-    }
-    if mask >= power(width) {
-        return Err(Refusal::TooWideAt(i));
-    }
-    Ok(())
+// What a class is opened with, element by element: masks or items.
+pub(crate) trait Element: Copy {
+    ghost refusal: { ℕ → ℕ → Self → Option Refusal };
+
+    // What opening refuses of the element at an index.
+    fn check(self, width: Width, i: usize) -> Result<(), Refusal>
+        ensures { MatchResult result (λ _. refusal width.columns i self ≡ None) (λ e. refusal width.columns i self ≡ Some e) };
 }
 
-// What opening refuses of the masks: the first that is no pattern, with its index.
-pub(crate) fn check_masks(width: usize, masks: &[u64]) -> Result<(), Refusal>
-    requires { width ≤ most_columns }
-    ensures { MatchResult result (λ _. first_refusal (mask_refusal width) 0 masks.now ≡ None) (λ e. first_refusal (mask_refusal width) 0 masks.now ≡ Some e) }
-{
-    for (i, mask) in masks.iter().enumerate() {
-        check_mask(width, i, *mask)?;
-    }
-    Ok(())
-}
+impl Element for u64 {
+    ghost refusal = { mask_refusal };
 
-// What opening refuses of the item at an index.
-pub(crate) fn check_item(width: usize, i: usize, item: Item) -> Result<(), Refusal>
-    requires { width ≤ most_columns }
-    ensures { MatchResult result (λ _. item_refusal width i item ≡ None) (λ e. item_refusal width i item ≡ Some e) }
-{
-    match item {
-        Item::Random(ones) => {
-            if ones < 1 || ones > MOST_ONES || ones > width {
-                return Err(Refusal::OutOfBoundsAt(i));
-            }
-            Ok(())
+    fn check(self, width: Width, i: usize) -> Result<(), Refusal> {
+        if self == 0 {
+            return Err(Refusal::OutOfBoundsAt(i));
         }
-        Item::Burst(size) => {
-            if size < LEAST_RUN || size > MOST_RUN || size > width {
-                return Err(Refusal::OutOfBoundsAt(i));
-            }
-            Ok(())
+        if self >= width.end() {
+            return Err(Refusal::TooWideAt(i));
         }
-        Item::Mask(mask) => check_mask(width, i, mask),
+        Ok(())
     }
 }
 
-// What opening refuses of the items: the first that is not taken, with its index.
-pub(crate) fn check_items(width: usize, items: &[Item]) -> Result<(), Refusal>
-    requires { width ≤ most_columns }
-    ensures { MatchResult result (λ _. first_refusal (item_refusal width) 0 items.now ≡ None) (λ e. first_refusal (item_refusal width) 0 items.now ≡ Some e) }
-{
-    for (i, item) in items.iter().enumerate() {
-        check_item(width, i, *item)?;
+impl Element for Item {
+    ghost refusal = { item_refusal };
+
+    fn check(self, width: Width, i: usize) -> Result<(), Refusal> {
+        let taken = match self {
+            Item::Random(ones) => width.takes_ones(ones),
+            Item::Burst(size) => width.takes_run(size),
+            Item::Mask(mask) => return mask.check(width, i),
+        };
+        if taken {
+            Ok(())
+        } else {
+            Err(Refusal::OutOfBoundsAt(i))
+        }
     }
-    Ok(())
+}
+
+// What opening refuses: the width first, then the count, then the first element that is not taken, with its index.
+pub(crate) fn check_all<E: Element>(
+    width: usize,
+    elements: &[E],
+    most: usize,
+) -> Result<Width, Refusal>
+    ensures value { MatchResult result
+        (λ w. (elements_refusal most (E.refusal width) width elements.now ≡ None) × (w.columns ≡ width))
+        (λ e. elements_refusal most (E.refusal width) width elements.now ≡ Some e) }
+    ensures tells { Tells width most (E.refusal width) elements.now (elements_refusal most (E.refusal width) width elements.now) }
+{
+    let checked = Width::open(width)?;
+    if elements.len() > most {
+        return Err(Refusal::OutOfBounds);
+    }
+    for (i, element) in elements.iter().enumerate() {
+        element.check(checked, i)?;
+    }
+    Ok(checked)
 }

@@ -1,3 +1,4 @@
+pub mod Shorts
 pub mod Bits
 pub mod Combining
 pub mod Gathering
@@ -6,6 +7,7 @@ pub mod Searching
 pub mod Members
 pub mod Systematic
 pub mod Units
+pub mod Looking
 pub mod Refusing
 pub mod Opening
 pub mod Codewords

@@ -1,8 +1,8 @@
 -- The check columns by their rows: as a list that a code value holds, as the definitions compute it, and as the relation says it.
-use Rattle.std.proofs.Common.{◌≡◌, ℕ, ◌+◌, ◌^◌, ◌<◌, ◌≤◌, true, false, not, ◌||◌, eqb, List, map, length, get_or, take, Some, None, Option, unwrap_or, sym, refl, ap, ◌∙◌, subst, inl, inr, arith}
+use Rattle.std.proofs.Common.{◌≡◌, ℕ, ◌+◌, ◌^◌, ◌<◌, true, false, not, ◌||◌, eqb, List, map, length, get_or, Some, None, Option, unwrap_or, sym, refl, ap, ◌∙◌, subst, inl, inr, arith}
 use Rattle.std.specs.List.{range_with_len}
 use Rattle.std.proofs.lemmas.Bool.{cases_Bool, both_ways, true≢false, eqb-true, eq-eqb, not-true, not-false, not_from_true, not_from_false, and_parts, and_from, or_cases, or_left, or_right}
-use Rattle.std.proofs.lemmas.List.{length-map, length-take-le, get_or-take, get_or-map, ext_get_or}
+use Rattle.std.proofs.lemmas.List.{length-map, get_or-map, ext_get_or}
 use Rattle.std.proofs.lemmas.List.FromFn.{length-map-range_with_len, get_or-map-range_with_len}
 use Rattle.code.specs.Words.{unit}
 use Rattle.code.specs.Search.{least, is_none, among}
@@ -20,11 +20,6 @@ Located cs ds us = (length us ≡ rows cs ds) × ((i : ℕ) → i < length us �
 -- u is a check column that holds the unit of row i
 abbrev pub RowAt : List ℕ → List ℕ → ℕ → ℕ → Type 0
 RowAt cs ds i u = Check cs ds u × (get_or cs u 0 ≡ 2 ^ i)
-
-pub located_take : (cs ds us : List ℕ) (r : ℕ) → r ≤ length us → r ≡ rows cs ds → ((t : ℕ) → t < r → Row cs ds us t) → Located cs ds (take r us)
-located_take cs ds us r h e f =
-    let many : length (take r us) ≡ r = length-take-le r us h in
-    (many ∙ e, λ i k. let k' : i < r = omega arith in subst (RowAt cs ds i) (sym (get_or-take r us i 0 k')) (f i k'))
 
 module _ (cs ds : List ℕ) where
   -- ---- a located list that leaves no check column out is the relation

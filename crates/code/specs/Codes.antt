@@ -73,6 +73,18 @@ Row cs ds us i = Check cs ds (slice_index us i) × (slice_index cs (slice_index 
 abbrev pub Covered : List ℕ → List ℕ → List ℕ → Type 0
 Covered cs ds us = (j : ℕ) → j < length cs → Beside ds j → Beside us j → ⊥
 
+-- what every code value keeps of its column values cs, its data columns ds and the check column of each row us
+pub record Laid (cs ds us : List ℕ) : Type 0 where
+  pub shape : Shape (length cs) (length ds)
+  pub inside : Inside cs ds
+  pub rising : Rising ds
+  pub narrow : Narrow cs ds
+  pub each_row : length us ≡ rows cs ds
+  pub placed : Inside cs us
+  pub aside : Aside ds us
+  pub units : Holding cs us
+  pub covered : Covered cs ds us
+
 -- ---- computed
 
 -- whether column j is no data column and holds v

@@ -1,8 +1,10 @@
 pub mod Limits
+pub mod Shorts
 pub mod Words
 pub mod Search
 pub mod Codes
 pub mod Refusals
+pub mod Reasons
 pub mod Opening
 pub mod Meaning
 pub mod Laws

@@ -1,16 +1,17 @@
 -- What a code value means: its column values and its data column numbers. And what its calls answer.
-use Rattle.std.specs.Prelude.{◌≡◌, ℕ, ◌^◌, cond, List, take, Some, None, Ok, Err, Result, nat_lt}
+use Rattle.std.specs.Prelude.{◌≡◌, ℕ, ◌^◌, cond, List, Some, None, Ok, Err, Result, nat_lt}
 use Rattle.code.specs.Codes.{Wellformed}
+use Rattle.code.specs.Shorts.{kept}
 use Rattle.code.specs.Opening.{refusal, Refused}
 use Rattle.code.specs.declared.code.Code.{Code}
 use Rattle.code.specs.declared.refusal.Refusal.{Refusal}
 use Rattle.code.specs.declared.refusal.Refusal.TheVariants.{TooWide}
 
 abbrev pub columns_of : Code → List ℕ
-columns_of c = take c.n c.values
+columns_of c = kept c.values
 
 abbrev pub data_of : Code → List ℕ
-data_of c = take c.k c.message
+data_of c = kept c.message
 
 -- the answer for a word of the given width; a word with a bit beyond it is refused
 abbrev pub within : ℕ → ℕ → ℕ → Result ℕ Refusal

@@ -1,5 +1,6 @@
 -- The first of some numbers that passes a test.
-use Rattle.std.specs.Prelude.{ℕ, zero, suc, Bool, true, false, ◌||◌, List, [], ◌∷◌, Some, None, Option, ◌==◌}
+use Rattle.std.specs.Prelude.{ℕ, zero, suc, Bool, true, false, List, Some, None, Option, ◌==◌}
+use Rattle.std.specs.List.{list_any}
 
 -- the first that passes, of the count numbers from start on
 abbrev pub least : (ℕ → Bool) → ℕ → ℕ → Option ℕ
@@ -13,5 +14,4 @@ is_none (Some i) = false
 
 -- whether j is one of the numbers
 abbrev pub among : List ℕ → ℕ → Bool
-among [] j = false
-among (i ∷ is) j = i == j || among is j
+among is j = list_any (λ i. i == j) is

@@ -1,5 +1,5 @@
 -- Words are numbers: bit j of a word has the weight 2 ^ j.
-use Rattle.std.specs.Prelude.{ℕ, zero, suc, ◌+◌, ◌*◌, ◌/◌, ◌%◌, ◌^◌, List, [], ◌∷◌, map, bit_xor}
+use Rattle.std.specs.Prelude.{ℕ, zero, suc, ◌+◌, ◌*◌, ◌/◌, ◌%◌, ◌^◌, cond, nat_lt, List, [], ◌∷◌, map, bit_xor}
 
 abbrev pub bit : ℕ → ℕ → ℕ
 bit w j = w / 2 ^ j % 2
@@ -26,3 +26,7 @@ unit j = 2 ^ j
 -- the word with bit i of d at the i-th of the places js, and zero elsewhere
 abbrev pub place : List ℕ → ℕ → ℕ
 place js d = combine (map unit js) d
+
+-- what a one in place j counts in a number of 64 bits
+abbrev pub weight : ℕ → ℕ
+weight j = cond (nat_lt j 64) (2 ^ j) 0

@@ -2,6 +2,8 @@ ghost use Rattle.std.specs.Prelude.{◌≡◌};
 ghost use Rattle.std.specs.List.{slice_get};
 ghost use Rattle.code.specs.Refusals.{number_of, values_of, clash_values};
 
+mod reason;
+
 // Two patterns that no decoder can tell apart, and two data words that show it:
 // `first` struck by `earlier` and `second` struck by `later` are one received word.
 #[derive(Clone, Copy, PartialEq, Eq, Debug)]
@@ -17,13 +19,9 @@ impl Clash {
     pub fn value_at(self, i: usize) -> Option<u64>
         ensures { result ≡ slice_get (clash_values self) i }
     {
-        match i {
-            0 => Some(self.earlier),
-            1 => Some(self.later),
-            2 => Some(self.first),
-            3 => Some(self.second),
-            _ => None,
-        }
+        [self.earlier, self.later, self.first, self.second]
+            .get(i)
+            .copied()
     }
 }
 
@@ -63,7 +61,8 @@ pub enum Refusal {
 }
 
 impl Refusal {
-    // The number by which the product's table knows the refusal.
+    // The number by which the product's table knows the refusal. It is a question and no `From`, since a number
+    // alone does not stand for a refusal, which may have values too.
     pub fn number(self) -> u8
         ensures { result ≡ number_of self }
     {
@@ -92,7 +91,7 @@ impl Refusal {
             Refusal::OutOfBoundsAt(at)
             | Refusal::DataColumn(at)
             | Refusal::ColumnValue(at)
-            | Refusal::TooWideAt(at) => { if i == 0 { Some(at as u64) } else { None } }
+            | Refusal::TooWideAt(at) => [at as u64].get(i).copied(),
             Refusal::CorrectableClash(clash) | Refusal::DetectableClash(clash) => clash.value_at(i),
             _ => None,
         }

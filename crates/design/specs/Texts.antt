@@ -1,9 +1,10 @@
 -- What is said of the errors that are named for a design, as bytes.
-use Rattle.std.specs.Prelude.{ℕ, Bool, cond, List, [], ◌∷◌, ◌++◌, length, take, codes, decimal}
+use Rattle.std.specs.Prelude.{ℕ, Bool, cond, List, ◌∷◌, ◌++◌, length, take, codes, decimal}
+use Rattle.std.specs.List.{flat_map}
 use Rattle.code.specs.Meaning.{columns_of}
 use Rattle.code.specs.Search.{among}
 use Rattle.listings.specs.declared.item.Item.{Item}
-use Rattle.listings.specs.declared.item.Item.TheVariants.{Random, Burst, Mask}
+use Rattle.listings.specs.Items.{item_name}
 use Rattle.classes.specs.Duties.{detectable}
 use Rattle.classes.specs.Meaning.{items_of, patterns_of}
 use Rattle.picture.specs.Nouns.{counted}
@@ -25,15 +26,13 @@ count_line name count = name ++ (codes ": " ++ counted count (codes "pattern") (
 abbrev pub class_text : Design → Duty → List ℕ
 class_text d duty = count_line (duty_name duty) (length (patterns_of (class_of d duty)))
 
+-- an item, set in by two blanks
 abbrev pub item_text : Item → List ℕ
-item_text (Random t) = codes "  random " ++ decimal t
-item_text (Burst l) = codes "  burst " ++ decimal l
-item_text (Mask m) = codes "  mask " ++ decimal m
+item_text item = codes "  " ++ item_name item
 
 -- a line for each item, each on a new line
 abbrev pub item_lines : List Item → List ℕ
-item_lines [] = []
-item_lines (item ∷ items) = (10 ∷ item_text item) ++ item_lines items
+item_lines items = flat_map (λ item. 10 ∷ item_text item) items
 
 -- a class and its items
 abbrev pub section_text : Design → Duty → List ℕ

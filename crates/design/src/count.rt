@@ -1,37 +1,30 @@
-ghost use Rattle.std.specs.Prelude.{◌≡◌, IfOk, string_bytes};
-ghost use Rattle.design.specs.Texts.{class_text, count_line, duty_name};
+ghost use Rattle.std.specs.Prelude.{◌≡◌, IfOk, IfSome, string_bytes};
+ghost use Rattle.design.specs.Texts.{class_text, count_line};
 
 use crate::design::Design;
 use crate::duty::Duty;
 use classes::ErrorClass;
 use picture::counted_text;
 use std::alloc::{AllocError, Global};
-
-// A duty as the lab's script calls it.
-pub(crate) fn duty_name(duty: Duty) -> &'static str
-    ensures { result.now ≡ duty_name duty }
-{
-    match duty {
-        Duty::Correct => "correct",
-        Duty::Detect => "detect",
-    }
-}
+use std::fmt::Display;
 
 // A name, and how many patterns there are of it.
-pub(crate) fn count_line(
+pub(crate) fn count_line<N: Display + Copy>(
     heap: Global,
-    name: &'static str,
+    name: N,
     count: usize,
 ) -> Result<String, AllocError>
-    ensures { IfOk result (λ t. string_bytes t ≡ count_line name.now count) }
+    ensures { IfSome (N.output name) (λ text. IfOk result (λ t. string_bytes t ≡ count_line text count)) }
 {
     let patterns = counted_text(heap, count, "pattern", "patterns")?;
     format!(in heap; "{name}: {patterns}")
 }
 
-// How many patterns are listed for a duty.
-pub fn class_line(heap: Global, design: &Design, duty: Duty) -> Result<String, AllocError>
-    ensures { IfOk result (λ t. string_bytes t ≡ class_text design.now duty) }
-{
-    count_line(heap, duty_name(duty), design.class(duty).count())
+impl Design {
+    // How many patterns are listed for a duty.
+    pub fn class_line(&self, heap: Global, duty: Duty) -> Result<String, AllocError>
+        ensures { IfOk result (λ t. string_bytes t ≡ class_text self.now duty) }
+    {
+        count_line(heap, duty, self.class(duty).count())
+    }
 }

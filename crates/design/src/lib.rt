@@ -1,4 +1,5 @@
 // A design: a code, and the errors that it is to correct and to flag.
+// What makes a text is handed the allocator, as the language asks of whatever allocates.
 #![tactic(auto)]
 
 mod belongs;
@@ -8,9 +9,5 @@ mod duty;
 mod list;
 mod overview;
 
-pub use belongs::belongs_line;
-pub use count::class_line;
 pub use design::Design;
-pub use duty::Duty;
-pub use list::list_text;
-pub use overview::classes_text;
+pub use duty::{Duty, UnknownDuty};

@@ -3,7 +3,7 @@ ghost use Rattle.design.specs.Texts.{list_text};
 
 use crate::design::Design;
 use crate::duty::Duty;
-use classes::ErrorClass;
+use classes::{ErrorClass, patterns_of};
 use picture::patterns_picture;
 use std::alloc::{AllocError, Global};
 
@@ -15,25 +15,15 @@ fn first_patterns<C: ErrorClass>(
 ) -> Result<Vec<u64>, AllocError>
     ensures { IfOk result (λ v. v.items ≡ take limit (C.ErrorClass.patterns class.now)) }
 {
-    let mut listed = Vec::new(heap);
-    for i in 0..limit {
-        match class.pattern_at(i) {
-            Ok(pattern) => listed.push(pattern)?,
-            Err(_) => return Ok(listed),
-        }
-    }
-    Ok(listed)
+    patterns_of(class).take(limit).collect(heap)
 }
 
-// The first patterns for a duty as a picture, as many as the limit where there are so many.
-pub fn list_text(
-    heap: Global,
-    design: &Design,
-    duty: Duty,
-    limit: usize,
-) -> Result<String, AllocError>
-    ensures { IfOk result (λ t. string_bytes t ≡ list_text design.now duty limit) }
-{
-    let patterns = first_patterns(heap, design.class(duty), limit)?;
-    patterns_picture(heap, patterns.as_slice(), design.code().column_count())
+impl Design {
+    // The first patterns for a duty as a picture, as many as the limit where there are so many.
+    pub fn list_text(&self, heap: Global, duty: Duty, limit: usize) -> Result<String, AllocError>
+        ensures { IfOk result (λ t. string_bytes t ≡ list_text self.now duty limit) }
+    {
+        let patterns = first_patterns(heap, self.class(duty), limit)?;
+        patterns_picture(heap, patterns.as_slice(), self.code().column_count())
+    }
 }

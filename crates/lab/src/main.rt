@@ -3,7 +3,8 @@
 
 use script::Session;
 use std::alloc::AllocError;
-use std::io::{BufRead, BufReader};
+use std::convert::AsStr;
+use std::io::{self, BufRead, BufReader};
 use std::{env, fs};
 
 // Prints an answer, unless there is nothing to say.
@@ -15,25 +16,29 @@ fn say(rt: &HostRuntime, answer: Result<String, AllocError>) -> anyhow::Result<(
     Ok(())
 }
 
-fn run(rt: &HostRuntime) -> anyhow::Result<()> {
-    let heap = rt.alloc();
-    let mut session = Session::new(heap);
-    let mut args = env::args(rt)?;
-    let _program = args.next();
-    match args.next() {
-        Some(path) => {
-            let text = fs::read_to_string(rt, path.as_str())?;
-            for (i, line) in text.lines().enumerate() {
-                say(rt, session.run(i + 1, line))?;
-            }
-        }
-        None => {
-            for (i, line) in BufReader::new(heap, rt.stdin())?.lines(heap).enumerate() {
-                say(rt, session.run(i + 1, line?.as_str()))?;
-            }
-        }
+// Runs the lines of a script in turn.
+fn play<S: AsStr + Drop, I: Iterator<Item = io::Result<S>> + Drop>(
+    rt: &HostRuntime,
+    lines: I,
+) -> anyhow::Result<()>
+    requires { I.can_next lines }
+{
+    let mut session = Session::new(rt.alloc());
+    for (number, line) in (1..).zip(lines) {
+        say(rt, session.run(number, line?.as_str()))?;
     }
     say(rt, session.finish())
+}
+
+fn run(rt: &HostRuntime) -> anyhow::Result<()> {
+    let heap = rt.alloc();
+    match env::args(rt)?.nth(1) {
+        Some(path) => {
+            let text = fs::read_to_string(rt, path.as_str())?;
+            play(rt, text.lines().map(Ok))
+        }
+        None => play(rt, BufReader::new(heap, rt.stdin())?.lines(heap)),
+    }
 }
 
 fn main(rt: HostRuntime) -> anyhow::Result<()> {

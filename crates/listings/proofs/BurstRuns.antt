@@ -9,11 +9,10 @@ use Rattle.std.proofs.lemmas.Bool.{cases_lt}
 use Rattle.code.proofs.Bits.{bit_first, bit_next, bits_same}
 use Rattle.code.proofs.Lowest.{split_at, below_exponent}
 use Rattle.code.proofs.Members.{among_at, place_of}
-use Rattle.code.specs.Limits.{least_columns, most_columns}
+use Rattle.code.specs.Limits.{most_columns}
 use Rattle.code.specs.Search.{among}
 use Rattle.code.specs.Words.{bit}
-use Rattle.listings.specs.Lawful.{Lawful, Patterns}
-use Rattle.listings.specs.Limits.{least_run}
+use Rattle.listings.specs.Lawful.{Patterns}
 use Rattle.listings.specs.Listings.{run, burst}
 use Rattle.listings.specs.Subject.{Ascending, RunFrom, RunWithin, ListsBurst}
 use Rattle.listings.proofs.Choosing.{eighth}
@@ -138,9 +137,6 @@ burst_each n l o f p h =
 
 pub burst_few : (n l : ℕ) → n ≤ most_columns → length (burst n l) ≤ eighth
 burst_few n l h = let e = burst_length n l in omega arith
-
-pub burst_lawful : (n l : ℕ) → least_columns ≤ n → n ≤ most_columns → least_run ≤ l → l ≤ n → Lawful n (burst n l)
-burst_lawful n l a b s f = record { low = a; high = b; few = (let e = burst_few n l b in omega arith); each = burst_each n l (omega arith) f }
 
 -- ---- the test of a run: moved down to its lowest one, the word is l ones
 

@@ -1,7 +1,6 @@
 -- Which numbers a joined or a mapped list holds, and each of its places by number.
-use Rattle.std.proofs.Common.{◌≡◌, ℕ, ◌-◌, ◌<◌, ◌≤◌, true, false, cond, ◌||◌, eqb, ◌⊎◌, List, [], ◌∷◌, ◌++◌, map, length, get_or, Ok, Err, sym, refl, ap, ◌∙◌, inl, inr, arith}
-use Rattle.std.proofs.lemmas.List.{length-append, get_or_append_left, get_or-append_right}
-use Rattle.std.proofs.lemmas.Bool.{cases_lt, eq-eqb, eqb-true, false≢true, le-ltb, lt-ltb, or_cases, or_left, or_right}
+use Rattle.std.proofs.Common.{◌≡◌, ℕ, ◌<◌, true, false, cond, ◌||◌, eqb, ◌⊎◌, List, [], ◌∷◌, ◌++◌, map, length, get_or, Ok, Err, sym, refl, ap, ◌∙◌, inl, inr}
+use Rattle.std.proofs.lemmas.Bool.{eq-eqb, eqb-true, false≢true, lt-ltb, or_cases, or_left, or_right}
 use Rattle.code.specs.Search.{among}
 use Rattle.code.specs.declared.refusal.Refusal.TheVariants.{BeyondEnd}
 use Rattle.listings.specs.Lawful.{pattern_at}
@@ -38,19 +37,3 @@ map_among f (y ∷ ys) q e = elim (or_cases (eqb (f y) q) (among (map f ys) q) e
 
 pub at_in : (ps : List ℕ) (i p : ℕ) → i < length ps → p ≡ get_or ps i 0 → Ok p ≡ pattern_at ps i
 at_in ps i p h e = ap Ok e ∙ sym (ap (λ b. cond b (Ok (get_or ps i 0)) (Err BeyondEnd)) (lt-ltb i (length ps) h))
-
-pub at_past : (ps : List ℕ) (i : ℕ) → length ps ≤ i → Err BeyondEnd ≡ pattern_at ps i
-at_past ps i h = sym (ap (λ b. cond b (Ok (get_or ps i 0)) (Err BeyondEnd)) (le-ltb i (length ps) h))
-
-pub at_left : (ps qs : List ℕ) (i : ℕ) → i < length ps → pattern_at (ps ++ qs) i ≡ Ok (get_or ps i 0)
-at_left ps qs i h =
-    let l = length-append ps qs in
-    sym (at_in (ps ++ qs) i (get_or ps i 0) (omega arith) (sym (get_or_append_left ps qs 0 i h)))
-
-pub at_right : (ps qs : List ℕ) (i : ℕ) → length ps ≤ i → pattern_at (ps ++ qs) i ≡ pattern_at qs (i - length ps)
-at_right ps qs i h =
-    let l = length-append ps qs in
-    elim (cases_lt (i - length ps) (length qs)) [
-      | inl k ↦ sym (at_in (ps ++ qs) i (get_or qs (i - length ps) 0) (omega arith) (sym (get_or-append_right ps qs (length ps) i 0 refl h))) ∙ at_in qs (i - length ps) (get_or qs (i - length ps) 0) k refl
-      | inr k ↦ sym (at_past (ps ++ qs) i (omega arith)) ∙ at_past qs (i - length ps) k
-    ]

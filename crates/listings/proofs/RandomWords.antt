@@ -5,9 +5,9 @@ use Rattle.std.proofs.lemmas.List.{length-append, length-map, get_or_append_left
 use Rattle.std.proofs.lemmas.Bool.{cases_lt, cases_eq, eqb-true, eq-eqb, or_cases, or_left, false≢true}
 use Rattle.code.proofs.Bits.{half_below}
 use Rattle.code.proofs.Members.{among_at}
-use Rattle.code.specs.Limits.{least_columns, most_columns}
+use Rattle.code.specs.Limits.{most_columns}
 use Rattle.code.specs.Search.{among}
-use Rattle.listings.specs.Lawful.{Lawful, Patterns}
+use Rattle.listings.specs.Lawful.{Patterns}
 use Rattle.listings.specs.Limits.{most_ones}
 use Rattle.listings.specs.Listings.{random, choose}
 use Rattle.listings.specs.Subject.{OnesAmong, Chosen, ListsRandom}
@@ -104,9 +104,6 @@ random_each n t l p h =
 
 pub random_few : (n t : ℕ) → n ≤ most_columns → t ≤ most_ones → length (random n t) ≤ eighth
 random_few n t h m = let e = random_length n t in let f = choose_few n t h m in omega arith
-
-pub random_lawful : (n t : ℕ) → least_columns ≤ n → n ≤ most_columns → 1 ≤ t → t ≤ most_ones → Lawful n (random n t)
-random_lawful n t a b l m = record { low = a; high = b; few = (let f = random_few n t b m in omega arith); each = random_each n t l }
 
 -- ---- the word at a number: its top one, and the word without it
 

@@ -1,1 +1,1 @@
-pub mod Emits
+pub mod Cells

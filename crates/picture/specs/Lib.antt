@@ -1,4 +1,5 @@
 pub mod Drawn
 pub mod Pictured
+pub mod Shown
 pub mod Patterned
 pub mod Nouns

@@ -1,6 +1,6 @@
 -- The picture of error patterns: a table with a line for each pattern and a cell for each column.
-use Rattle.std.specs.Prelude.{ℕ, zero, suc, ◌+◌, List, [], ◌∷◌, ◌++◌, map, length, codes, decimal, slice_index}
-use Rattle.std.specs.List.{range_with_len}
+use Rattle.std.specs.Prelude.{ℕ, List, ◌∷◌, ◌++◌, map, length, codes, decimal, slice_index}
+use Rattle.std.specs.List.{flat_map, range_with_len}
 use Rattle.code.specs.Words.{bit}
 use Rattle.picture.specs.Pictured.{number_line, widest}
 
@@ -14,8 +14,7 @@ pattern_line width n i pattern = number_line (decimal i) width (bits_of n patter
 
 -- the lines of the patterns i, i + 1, .., as many as k, each on a new line
 abbrev pub pattern_lines : ℕ → ℕ → List ℕ → ℕ → ℕ → List ℕ
-pattern_lines width n ps zero i = []
-pattern_lines width n ps (suc k) i = (10 ∷ pattern_line width n i (slice_index ps i)) ++ pattern_lines width n ps k (i + 1)
+pattern_lines width n ps k i = flat_map (λ j. 10 ∷ pattern_line width n j (slice_index ps j)) (range_with_len i k)
 
 -- the width of the widest column number
 abbrev pub column_width : ℕ → ℕ

@@ -1,197 +1,69 @@
-ghost use Rattle.std.specs.Prelude.{◌≡◌, max, ◌∷◌, ◌++◌, length, IfOk, string_bytes, codes, decimal, OnOk};
-ghost use Rattle.picture.specs.Drawn.{drawn};
-ghost use Rattle.picture.specs.Pictured.{blanks, cell, kind, kind_cells, label, number_line, pictured, row_lines, row_of, widest};
-ghost use Rattle.code.specs.Search.{among};
-ghost use Rattle.code.specs.Words.{bit};
-ghost use Rattle.std.specs.List.{range_with_len};
+ghost use Rattle.std.specs.Prelude.{◌≡◌, ◌-◌, ◌^◌, ◌<◌, ◌∷◌, ◌++◌, ℕ, List, length, IfOk, string_bytes, codes, decimal};
+ghost use Rattle.std.specs.Fmt.{format_spec};
+ghost use Rattle.std.specs.List.{range_with_len, flat_map};
+ghost use Rattle.picture.specs.Pictured.{number_line, widest};
+ghost use Rattle.picture.specs.Shown.{Shows, Writes};
 
 use std::alloc::{AllocError, Global};
+use std::fmt::{Display, Write};
 
-// The lowest `count` bits of a word as they stand in the columns: bit 0 is drawn left.
-pub fn bits_text(heap: Global, word: u64, count: usize) -> Result<String, AllocError>
-    ensures { IfOk result (λ t. string_bytes t ≡ drawn count word) }
-{
-    let mut text = String::new(heap);
-    let mut rest = word;
-    for _i in 0..count {
-        text.push(char::from(b'0' + (rest % 2) as u8))?;
-        rest /= 2;
+// A table that is drawn line by line: each cell is `width` characters wide.
+#[derive(Clone, Copy)]
+pub(crate) struct Table {
+    pub(crate) heap: Global,
+    pub(crate) width: usize,
+}
+
+impl Table {
+    // A line of the table: its label, and a cell for each value, which stands at the right end, after a blank.
+    // A label is six characters wide, as the longest one is, `column`.
+    pub(crate) fn line<T: Display>(self, label: &str, cells: &[T]) -> Result<String, AllocError>
+        ensures { (text : T → List ℕ) → Shows T.styled_output (format_spec 32 3 0 self.width (2 ^ 64 - 1)) text → IfOk result (λ t. string_bytes t ≡ label.now ++ flat_map (λ x. 32 ∷ text x) cells.now) }
+    {
+        let width = self.width;
+        let mut line = String::from_str(self.heap, label)?;
+        for cell in cells {
+            write!(line, " {cell:>width$}")?;
+        }
+        Ok(line)
     }
-    Ok(text)
-}
 
-fn push_blanks(line: &mut String, count: usize) -> Result<(), AllocError>
-    ensures { OnOk result (string_bytes line.new ≡ string_bytes line.old ++ blanks count) }
-{
-    for _i in 0..count {
-        line.push(' ')?;
+    // The line of the column numbers, and below it the lines of the places from 0 up to `count`.
+    pub(crate) fn lines<F: Fn(usize) -> Result<String, AllocError> + Drop>(
+        self,
+        numbers: &[u64],
+        count: usize,
+        line: F,
+    ) -> Result<String, AllocError>
+        requires { (i : ℕ) → i < count → F.pre line i }
+        ensures { (text : ℕ → List ℕ) → Writes (F.post line) text → IfOk result (λ t. string_bytes t ≡ number_line (codes "column") self.width numbers.now ++ flat_map (λ i. 10 ∷ text i) (range_with_len 0 count)) }
+    {
+        let mut text = self.line("column", numbers)?;
+        for i in 0..count {
+            let next = line(i)?;
+            write!(text, "\n{next}")?;
+        }
+        Ok(text)
     }
-    Ok(())
 }
 
-// A cell of the table is set to the right, `width` characters wide, after a blank.
-fn push_cell(line: &mut String, width: usize, text: &str) -> Result<(), AllocError>
-    ensures { OnOk result (string_bytes line.new ≡ string_bytes line.old ++ cell width text.now) }
-{
-    line.push(' ')?;
-    push_blanks(line, width.saturating_sub(text.len()))?;
-    line.push_str(text)?;
-    Ok(())
-}
-
-// The label of a line is as wide as the widest one, `column`.
-fn labelled(heap: Global, name: &str) -> Result<String, AllocError>
-    ensures { IfOk result (λ t. string_bytes t ≡ label name.now) }
-{
-    let mut line = String::from_str(heap, name)?;
-    push_blanks(&mut line, 6usize.saturating_sub(name.len()))?;
-    Ok(line)
-}
-
-// A line of the table with a number for each column.
-pub(crate) fn number_line(
-    heap: Global,
-    name: &str,
-    width: usize,
-    numbers: &[u64],
-) -> Result<String, AllocError>
-    ensures { IfOk result (λ t. string_bytes t ≡ number_line name.now width numbers.now) }
-{
-    let mut line = labelled(heap, name)?;
-    for n in numbers {
-        let digits = format!(in heap; "{n}")?;
-        push_cell(&mut line, width, digits.as_str())?;
-    }
-    Ok(line)
-}
-
-fn is_among(columns: &[usize], j: usize) -> bool
-    ensures { result ≡ among columns.now j }
-{
-    columns.contains(&j)
-}
-
-// `d` for a data column, and `c` for a check column.
-fn kind_of(data_columns: &[usize], j: usize) -> &'static str
-    ensures { result.now ≡ kind data_columns.now j }
-{
-    if is_among(data_columns, j) { "d" } else { "c" }
-}
-
-fn kind_line(
-    heap: Global,
-    width: usize,
-    data_columns: &[usize],
-    count: usize,
-) -> Result<String, AllocError>
-    ensures { IfOk result (λ t. string_bytes t ≡ label (codes "kind") ++ kind_cells width data_columns.now count 0) }
-{
-    let mut line = labelled(heap, "kind")?;
-    for j in 0..count {
-        push_cell(&mut line, width, kind_of(data_columns, j))?;
-    }
-    Ok(line)
-}
-
-pub(crate) fn bit_of(value: u64, i: usize) -> u64
-    ensures { result ≡ bit value i }
-{
-    if i < 64 { (value >> i) % 2 } else { 0 }
-}
-
-// Row `i` of the matrix: bit `i` of each column value.
-fn row_of(heap: Global, i: usize, values: &[u64]) -> Result<Vec<u64>, AllocError>
-    ensures { IfOk result (λ v. v.items ≡ row_of i values.now) }
-{
-    let mut digits = Vec::new(heap);
-    for v in values {
-        digits.push(bit_of(*v, i))?;
-    }
-    Ok(digits)
-}
-
+// The numbers of so many columns, from 0 on.
 pub(crate) fn column_numbers(heap: Global, count: usize) -> Result<Vec<u64>, AllocError>
     ensures { IfOk result (λ v. v.items ≡ range_with_len 0 count) }
 {
-    let mut numbers = Vec::new(heap);
-    for j in 0..count {
-        numbers.push(j as u64)?;
-    }
-    Ok(numbers)
+    (0..count).map(|j| j as u64).collect(heap)
+}
+
+// How many digits a number has in decimal.
+fn digit_count(number: u64) -> usize
+    ensures { result ≡ length (decimal number) }
+{
+    number.checked_ilog10().unwrap_or(0) as usize + 1
 }
 
 // How many digits the widest of the numbers has.
-pub(crate) fn widest_of(heap: Global, numbers: &[u64]) -> Result<usize, AllocError>
-    ensures { IfOk result (λ w. w ≡ widest numbers.now) }
+pub(crate) fn widest_of(numbers: &[u64]) -> usize
+    ensures { result ≡ widest numbers.now }
 {
-    let mut most = 0;
-    for n in numbers {
-        let digits = format!(in heap; "{n}")?;
-        most = digits.as_str().len().max(most);
-    }
-    Ok(most)
-}
-
-pub(crate) fn push_line(text: &mut String, line: &str) -> Result<(), AllocError>
-    ensures { OnOk result (string_bytes text.new ≡ string_bytes text.old ++ (10 ∷ line.now)) }
-{
-    text.push('\n')?;
-    text.push_str(line)?;
-    Ok(())
-}
-
-// The width of the widest number in the table of these column values.
-fn table_width(heap: Global, numbers: &[u64], values: &[u64]) -> Result<usize, AllocError>
-    ensures { IfOk result (λ w. w ≡ max (widest numbers.now) (widest values.now)) }
-{
-    let first = widest_of(heap, numbers)?;
-    let second = widest_of(heap, values)?;
-    Ok(first.max(second))
-}
-
-// Row `i` of the matrix as a line of the table.
-fn row_line(heap: Global, i: usize, width: usize, values: &[u64]) -> Result<String, AllocError>
-    ensures { IfOk result (λ t. string_bytes t ≡ number_line (codes "row " ++ decimal i) width (row_of i values.now)) }
-{
-    let name = format!(in heap; "row {i}")?;
-    let digits = row_of(heap, i, values)?;
-    number_line(heap, name.as_str(), width, digits.as_slice())
-}
-
-// The column numbers, and below them the rows of the matrix.
-fn upper_lines(
-    heap: Global,
-    width: usize,
-    numbers: &[u64],
-    values: &[u64],
-    rows: usize,
-) -> Result<String, AllocError>
-    ensures { IfOk result (λ t. string_bytes t ≡ number_line (codes "column") width numbers.now ++ row_lines width values.now rows 0) }
-{
-    let mut text = number_line(heap, "column", width, numbers)?;
-    for i in 0..rows {
-        let line = row_line(heap, i, width, values)?;
-        push_line(&mut text, line.as_str())?;
-    }
-    Ok(text)
-}
-
-// The parity check matrix of these column values as it is drawn on paper, top row first, with the number, the
-// value and the kind of each column.
-pub fn matrix_picture(
-    heap: Global,
-    values: &[u64],
-    data_columns: &[usize],
-    rows: usize,
-) -> Result<String, AllocError>
-    ensures { IfOk result (λ t. string_bytes t ≡ pictured values.now data_columns.now rows) }
-{
-    let numbers = column_numbers(heap, values.len())?;
-    let width = table_width(heap, numbers.as_slice(), values)?;
-    let mut text = upper_lines(heap, width, numbers.as_slice(), values, rows)?;
-    let below = number_line(heap, "value", width, values)?;
-    push_line(&mut text, below.as_str())?;
-    let kinds = kind_line(heap, width, data_columns, values.len())?;
-    push_line(&mut text, kinds.as_str())?;
-    Ok(text)
+    numbers.iter().map(|n| digit_count(*n)).max().unwrap_or(0)
 }

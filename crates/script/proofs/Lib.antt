@@ -1,2 +1,1 @@
-pub mod RowSteps
 pub mod Stacks

@@ -1,7 +1,7 @@
 -- A line of a script without its comment.
-use Rattle.std.specs.Prelude.{ℕ, cond, List, [], ◌∷◌, ◌==◌}
+use Rattle.std.specs.Prelude.{ℕ, List, not, ◌==◌}
+use Rattle.std.specs.List.{take_while}
 
 -- the bytes before the first 35, which is the number sign
 abbrev pub uncommented : List ℕ → List ℕ
-uncommented [] = []
-uncommented (b ∷ bs) = cond (b == 35) [] (b ∷ uncommented bs)
+uncommented line = take_while (λ b. not (b == 35)) line

@@ -5,23 +5,28 @@ use Rattle.code.specs.Meaning.{within}
 use Rattle.code.specs.Refusals.{number_of}
 use Rattle.code.specs.Words.{gather}
 use Rattle.code.specs.declared.refusal.Refusal.{Refusal}
-use Rattle.code.specs.declared.refusal.Refusal.TheVariants.{ColumnCount, OutOfBounds, OutOfBoundsAt, DataColumn, ColumnValue, NotUnits, CorrectableClash, DetectableClash, WidthsDiffer, BeyondEnd, TooWide, TooWideAt, LostCell, ShortTable, CampaignFull}
+use Rattle.code.specs.declared.refusal.Refusal.TheVariants.{OutOfBoundsAt, DataColumn, ColumnValue, TooWideAt}
 use Rattle.picture.specs.Drawn.{drawn}
 use Rattle.picture.specs.Nouns.{counted}
 use Rattle.picture.specs.Pictured.{pictured}
+use Rattle.script.specs.declared.question.Question.{Question}
+use Rattle.script.specs.declared.question.Question.TheVariants.{Encode, Syndrome, Data}
 
--- a word, what is said of it, and the bits of that, drawn
-abbrev pub word_line : List ℕ → ℕ → ℕ → List ℕ → List ℕ → List ℕ
-word_line name word value kind bits = name ++ (decimal word ++ (codes ": " ++ (decimal value ++ (kind ++ (bits ++ codes ")")))))
+-- the command that asks it
+abbrev pub asked : Question → List ℕ
+asked Encode = codes "encode"
+asked Syndrome = codes "syndrome"
+asked Data = codes "data"
 
-abbrev pub encode_line : ℕ → ℕ → ℕ → List ℕ
-encode_line word codeword columns = word_line (codes "encode ") word codeword (codes " (columns ") (drawn columns codeword)
+-- what the bits of the answer belong to
+abbrev pub places : Question → List ℕ
+places Encode = codes "columns"
+places Syndrome = codes "rows"
+places Data = codes "bits"
 
-abbrev pub syndrome_line : ℕ → ℕ → ℕ → List ℕ
-syndrome_line word value count = word_line (codes "syndrome ") word value (codes " (rows ") (drawn count value)
-
-abbrev pub data_line : ℕ → ℕ → ℕ → List ℕ
-data_line word message count = word_line (codes "data ") word message (codes " (bits ") (drawn count message)
+-- a word, what is answered of it, and the bits of that, so many of them, drawn
+abbrev pub word_line : Question → ℕ → ℕ → ℕ → List ℕ
+word_line question word value count = asked question ++ (codes " " ++ (decimal word ++ (codes ": " ++ (decimal value ++ (codes " (" ++ (places question ++ (codes " " ++ (drawn count value ++ codes ")"))))))))
 
 abbrev pub opened_line : ℕ → ℕ → ℕ → List ℕ
 opened_line columns data_count checks = codes "code of " ++ (decimal columns ++ (codes " columns: " ++ (decimal data_count ++ (codes " data, " ++ (decimal checks ++ codes " check")))))
@@ -35,17 +40,7 @@ place (OutOfBoundsAt i) = codes " at index " ++ decimal i
 place (DataColumn i) = codes " at index " ++ decimal i
 place (ColumnValue j) = codes " at column " ++ decimal j
 place (TooWideAt i) = codes " at index " ++ decimal i
-place ColumnCount = []
-place OutOfBounds = []
-place NotUnits = []
-place (CorrectableClash c) = []
-place (DetectableClash c) = []
-place WidthsDiffer = []
-place BeyondEnd = []
-place TooWide = []
-place LostCell = []
-place ShortTable = []
-place CampaignFull = []
+place e = []
 
 -- the text names the refusal by its number, says where, and says why in words that are left open here
 abbrev pub Says : Refusal → List ℕ → Type 0
@@ -69,13 +64,13 @@ answer (Err e) line refused = refused e
 -- ---- what the commands answer, for a code with the column values cs and the data columns ds
 
 abbrev pub encode_text : List ℕ → List ℕ → ℕ → List ℕ
-encode_text cs ds word = answer (within (length ds) word (encoding cs ds word)) (λ w. encode_line word w (length cs)) (wide_data_word word (length ds))
+encode_text cs ds word = answer (within (length ds) word (encoding cs ds word)) (λ w. word_line Encode word w (length cs)) (wide_data_word word (length ds))
 
 abbrev pub syndrome_text : List ℕ → List ℕ → ℕ → List ℕ
-syndrome_text cs ds word = answer (within (length cs) word (syndrome cs word)) (λ s. syndrome_line word s (rows cs ds)) (wide_word word (length cs))
+syndrome_text cs ds word = answer (within (length cs) word (syndrome cs word)) (λ s. word_line Syndrome word s (rows cs ds)) (wide_word word (length cs))
 
 abbrev pub data_text : List ℕ → List ℕ → ℕ → List ℕ
-data_text cs ds word = answer (within (length cs) word (gather ds word)) (λ d. data_line word d (length ds)) (wide_word word (length cs))
+data_text cs ds word = answer (within (length cs) word (gather ds word)) (λ d. word_line Data word d (length ds)) (wide_word word (length cs))
 
 abbrev pub show_text : List ℕ → List ℕ → List ℕ
 show_text cs ds = pictured cs ds (rows cs ds)

@@ -1,11 +1,10 @@
 -- The column values of a drawn matrix.
-use Rattle.std.specs.Prelude.{◌≡◌, ℕ, zero, suc, ◌+◌, ◌^◌, ◌<◌, Bool, cond, List, [], ◌∷◌, length, replicate, slice_index}
+use Rattle.std.specs.Prelude.{◌≡◌, ℕ, zero, suc, ◌+◌, ◌^◌, ◌<◌, Bool, cond, List, length, map, replicate, slice_index}
+use Rattle.std.specs.List.{zip}
 
 -- each column value with 2^i more where row i holds a one
 abbrev pub stacked : ℕ → List ℕ → List Bool → List ℕ
-stacked i [] row = []
-stacked i (v ∷ vs) [] = []
-stacked i (v ∷ vs) (b ∷ bs) = (v + cond b (2 ^ i) 0) ∷ stacked i vs bs
+stacked i values row = map (λ (p : ℕ × Bool). p.0 + cond p.1 (2 ^ i) 0) (zip values row)
 
 -- each value is below m, which is above 0
 abbrev pub AllBelow : ℕ → List ℕ → Type 0

@@ -1,15 +1,25 @@
 use crate::comment::without_comment;
 use crate::fault::Fault;
+use crate::kind::Kind;
 use crate::numeral::number;
 use design::Duty;
 use listings::Item;
 use std::alloc::Global;
-use std::str::SplitWhitespace;
+use std::str::{FromStr, SplitWhitespace};
 
-// The names of the classes, and those of the kinds of error, as a fault lists them.
-const DUTIES: &str = "'correct' or 'detect'";
+// What is read from one of some names.
+trait Named: FromStr {
+    // the names, as a fault lists them
+    const NAMES: &'static str;
+}
 
-const KINDS: &str = "'random', 'burst' or 'mask'";
+impl Named for Duty {
+    const NAMES: &'static str = "'correct' or 'detect'";
+}
+
+impl Named for Kind {
+    const NAMES: &'static str = "'random', 'burst' or 'mask'";
+}
 
 // What a line asks for.
 #[derive(Drop)]
@@ -38,14 +48,6 @@ pub enum Command {
     Belongs(Duty, u64),
 }
 
-// A kind of error, whose number follows.
-#[derive(Clone, Copy)]
-enum Kind {
-    Random,
-    Burst,
-    Mask,
-}
-
 // What a line says while a drawing is open.
 #[derive(Drop)]
 pub enum Stroke<'a> {
@@ -56,33 +58,41 @@ pub enum Stroke<'a> {
     Data(Vec<usize>),
 }
 
+fn no_more<'a>(mut words: SplitWhitespace<'a>) -> Result<(), Fault<'a>> {
+    words
+        .next()
+        .map_or(Ok(()), |word| Err(Fault::WordTooMany(word)))
+}
+
 // The one number that is left on the line.
-fn only_number<'a>(words: &mut SplitWhitespace<'a>) -> Result<u64, Fault<'a>> {
-    let Some(word) = words.next() else {
-        return Err(Fault::MissingNumber);
-    };
-    let n = number(word)?;
+fn only_number<'a>(mut words: SplitWhitespace<'a>) -> Result<u64, Fault<'a>> {
+    let n = number(words.next().ok_or(Fault::MissingNumber)?)?;
     no_more(words)?;
     Ok(n)
 }
 
-fn no_more<'a>(words: &mut SplitWhitespace<'a>) -> Result<(), Fault<'a>> {
-    match words.next() {
-        Some(word) => Err(Fault::WordTooMany(word)),
-        None => Ok(()),
-    }
+// One of the names, and the one number that is left on the line.
+fn name_and_number<'a, T: Named + Drop>(
+    mut words: SplitWhitespace<'a>,
+) -> Result<(T, u64), Fault<'a>>
+where
+    T::Err: Drop,
+{
+    let names = T::NAMES;
+    let word = words.next().ok_or(Fault::MissingName(names))?;
+    let name = word.parse().map_err(|_| Fault::NotNamed { word, names })?;
+    Ok((name, only_number(words)?))
 }
 
 // The column numbers that are left on the line.
 fn column_numbers<'a>(heap: Global, words: SplitWhitespace<'a>) -> Result<Vec<usize>, Fault<'a>> {
-    let mut numbers = Vec::new(heap);
-    for word in words {
-        numbers.push(number(word)? as usize)?;
-    }
-    Ok(numbers)
+    words
+        .map(|word| number(word).map(|n| n as usize))
+        .try_collect(heap)
 }
 
-// The column values, then the word `data`, then the data columns.
+// The column values, then the word `data`, then the data columns. A loop, since a `take_while` would not tell a
+// `data` that is missing from the end of the line.
 fn code_command<'a>(heap: Global, mut words: SplitWhitespace<'a>) -> Result<Command, Fault<'a>> {
     let mut values = Vec::new(heap);
     while let Some(word) = words.next() {
@@ -95,62 +105,20 @@ fn code_command<'a>(heap: Global, mut words: SplitWhitespace<'a>) -> Result<Comm
     Err(Fault::MissingData)
 }
 
-// The class that is meant.
-fn read_duty<'a>(words: &mut SplitWhitespace<'a>) -> Result<Duty, Fault<'a>> {
-    match words.next() {
-        Some("correct") => Ok(Duty::Correct),
-        Some("detect") => Ok(Duty::Detect),
-        Some(word) => Err(Fault::NotNamed {
-            word,
-            names: DUTIES,
-        }),
-        None => Err(Fault::MissingName(DUTIES)),
-    }
-}
-
-fn read_kind<'a>(words: &mut SplitWhitespace<'a>) -> Result<Kind, Fault<'a>> {
-    match words.next() {
-        Some("random") => Ok(Kind::Random),
-        Some("burst") => Ok(Kind::Burst),
-        Some("mask") => Ok(Kind::Mask),
-        Some(word) => Err(Fault::NotNamed { word, names: KINDS }),
-        None => Err(Fault::MissingName(KINDS)),
-    }
-}
-
 // A kind of error and its number, to be named for the duty.
-fn name_command<'a>(duty: Duty, mut words: SplitWhitespace<'a>) -> Result<Command, Fault<'a>> {
-    let kind = read_kind(&mut words)?;
-    let n = only_number(&mut words)?;
-    let item = match kind {
-        Kind::Random => Item::Random(n as usize),
-        Kind::Burst => Item::Burst(n as usize),
-        Kind::Mask => Item::Mask(n),
-    };
-    Ok(Command::Name(duty, item))
-}
-
-// A class, and how many of its patterns.
-fn list_command<'a>(mut words: SplitWhitespace<'a>) -> Result<Command, Fault<'a>> {
-    let duty = read_duty(&mut words)?;
-    let limit = only_number(&mut words)?;
-    Ok(Command::Patterns(duty, limit as usize))
-}
-
-// A class, and a mask.
-fn belongs_command<'a>(mut words: SplitWhitespace<'a>) -> Result<Command, Fault<'a>> {
-    let duty = read_duty(&mut words)?;
-    let mask = only_number(&mut words)?;
-    Ok(Command::Belongs(duty, mask))
+fn name_command<'a>(duty: Duty, words: SplitWhitespace<'a>) -> Result<Command, Fault<'a>> {
+    let (kind, n): (Kind, u64) = name_and_number(words)?;
+    Ok(Command::Name(duty, kind.item(n)))
 }
 
 // A command of one word.
-fn alone<'a>(command: Command, mut words: SplitWhitespace<'a>) -> Result<Command, Fault<'a>> {
-    no_more(&mut words)?;
+fn alone<'a>(command: Command, words: SplitWhitespace<'a>) -> Result<Command, Fault<'a>> {
+    no_more(words)?;
     Ok(command)
 }
 
-// Reads a line while no drawing is open.
+// Reads a line while no drawing is open. The words are a closed list, each with a rest of its own, so a match and
+// no table says them.
 pub(crate) fn read_command(heap: Global, line: &str) -> Result<Command, Fault<'_>> {
     let mut words = without_comment(line).split_whitespace();
     let Some(first) = words.next() else {
@@ -158,13 +126,16 @@ pub(crate) fn read_command(heap: Global, line: &str) -> Result<Command, Fault<'_
     };
     match first {
         "code" => code_command(heap, words),
-        "encode" => Ok(Command::Encode(only_number(&mut words)?)),
-        "syndrome" => Ok(Command::Syndrome(only_number(&mut words)?)),
-        "data" => Ok(Command::Data(only_number(&mut words)?)),
+        "encode" => only_number(words).map(Command::Encode),
+        "syndrome" => only_number(words).map(Command::Syndrome),
+        "data" => only_number(words).map(Command::Data),
         "correct" => name_command(Duty::Correct, words),
         "detect" => name_command(Duty::Detect, words),
-        "list" => list_command(words),
-        "belongs" => belongs_command(words),
+        "list" => name_and_number(words).map(|(duty, limit)| Command::Patterns(
+            duty,
+            limit as usize,
+        )),
+        "belongs" => { name_and_number(words).map(|(duty, mask)| Command::Belongs(duty, mask)) }
         "matrix" => alone(Command::Matrix, words),
         "show" => alone(Command::Show, words),
         "classes" => alone(Command::Classes, words),
@@ -183,16 +154,9 @@ pub(crate) fn read_stroke(heap: Global, since: usize, line: &str) -> Result<Stro
     if first == "data" {
         return Ok(Stroke::Data(column_numbers(heap, words)?));
     }
-    if starts_with_digit(first) {
+    if first.starts_with(|c: char| c.is_ascii_digit()) {
         Ok(Stroke::Row(text))
     } else {
         Err(Fault::InDrawing(since))
-    }
-}
-
-fn starts_with_digit(word: &str) -> bool {
-    match word.as_bytes() {
-        [first, ..] => first.is_ascii_digit(),
-        [] => false,
     }
 }

@@ -5,8 +5,5 @@ ghost use Rattle.script.specs.Comments.{uncommented};
 pub(crate) fn without_comment(line: &str) -> &str
     ensures { result.now ≡ uncommented line.now }
 {
-    match line.split_once('#') {
-        Some((before, _)) => before,
-        None => line,
-    }
+    line.split_once('#').map_or(line, |(before, _)| before)
 }

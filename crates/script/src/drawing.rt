@@ -51,7 +51,7 @@ impl Drawing {
     pub(crate) fn column_values(&self) -> &[u64]
         ensures { result.now ≡ self.now.values.items }
     {
-        self.values.as_slice()
+        &self.values
     }
 
     // Draws a row under the rows so far; the first row says how many columns there are.
@@ -61,35 +61,24 @@ impl Drawing {
         ensures same { OnErr result (self.new ≡ self.old) }
         ensures why { IfErr result (λ e. Untaken self.old.rows (length self.old.values.items) (length row.now) e) }
     {
-        let Drawing {
-            heap,
-            since,
-            rows,
-            ..
-        } = *self;
-        if rows >= MOST_ROWS {
+        if self.rows >= MOST_ROWS {
             return Err(Fault::TooManyRows);
         }
-        let values = if rows == 0 {
-            let blank = vec![in heap; 0; row.len()]?;
-            stack(heap, 0, blank.as_slice(), row)?
+        let values = if self.rows == 0 {
+            let blank = vec![in self.heap; 0; row.len()]?;
+            stack(self.heap, 0, &blank, row)?
         } else {
-            let drawn = row.len();
             let above = self.column_values();
-            if drawn != above.len() {
+            if row.len() != above.len() {
                 return Err(Fault::RowWidth {
-                    drawn,
+                    drawn: row.len(),
                     above: above.len(),
                 });
             }
-            stack(heap, rows, above, row)?
+            stack(self.heap, self.rows, above, row)?
         };
-        *self = Drawing {
-            heap,
-            since,
-            rows: rows + 1,
-            values,
-        };
+        self.rows += 1;
+        self.values = values;
         Ok(())
     }
 }
@@ -97,16 +86,13 @@ impl Drawing {
 // The column values with row `i` under the rows above it.
 fn stack(heap: Global, i: usize, above: &[u64], row: &[bool]) -> Result<Vec<u64>, AllocError>
     requires room { i < most_rows }
-    requires wide { length above.now ≡ length row.now }
     requires low { AllBelow (2 ^ i) above.now }
-    ensures items { IfOk result (λ v. v.items ≡ stacked i above.now row.now) }
-    ensures bound { IfOk result (λ v. AllBelow (2 ^ (i + 1)) v.items) }
+    ensures { IfOk result (λ v. v.items ≡ stacked i above.now row.now) }
 {
-    let weight = 1u64 << i;
-    let mut values = Vec::new(heap);
-    for (k, v) in above.iter().enumerate() {
-        let gain = if row[k] { weight } else { 0 };
-        values.push(*v + gain)?;
-    }
-    Ok(values)
+    let weight = 1 << i;
+    above
+        .iter()
+        .zip(row)
+        .map(|(value, one)| if *one { *value + weight } else { *value })
+        .collect(heap)
 }

@@ -27,6 +27,7 @@ pub enum Fault<'a> {
     InDrawing(usize),
 }
 
+// Both are written out, and not derived: clauses read which fault a failed allocation gives.
 impl<'a> From<AllocError> for Fault<'a> {
     ghost from_gives = { λ _ r. r ≡ Memory };
 
@@ -62,10 +63,7 @@ impl fmt::Display for Fault<'_> {
                     "the row has {drawn} {columns}, the rows above have {above}"
                 )
             }
-            Fault::TooManyRows => {
-                let most = MOST_ROWS;
-                write!(f, "a drawing has at most {most} rows")
-            }
+            Fault::TooManyRows => write!(f, "a drawing has at most {MOST_ROWS} rows"),
             Fault::InDrawing(since) => {
                 write!(
                     f,

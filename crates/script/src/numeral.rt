@@ -11,8 +11,5 @@ pub(crate) fn number(word: &str) -> Result<u64, Fault<'_>>
     if word.starts_with('+') {
         return Err(Fault::NotNumber(word));
     }
-    match word.parse::<u64>() {
-        Ok(n) => Ok(n),
-        Err(_) => Err(Fault::NotNumber(word)),
-    }
+    word.parse().map_err(|_| Fault::NotNumber(word))
 }

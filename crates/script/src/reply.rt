@@ -1,56 +1,37 @@
 ghost use Rattle.std.specs.Prelude.{◌≡◌, IfOk, string_bytes};
-ghost use Rattle.script.specs.Replies.{data_line, encode_line, opened_line, syndrome_line, unfinished_line, wide_data_word, wide_word};
+ghost use Rattle.code.specs.Meaning.{columns_of, data_of};
+ghost use Rattle.script.specs.Replies.{opened_text, places, unfinished_line, wide_data_word, wide_word, word_line};
 
-use code::Refusal;
+use crate::question::Question;
+use code::{Code, Refusal};
 use picture::{bits_text, counted_text, noun_for};
 use std::alloc::{AllocError, Global};
 
-pub(crate) fn encode_line(
+// What is answered of a word: a value, and its bits, so many of them.
+pub(crate) fn word_line(
     heap: Global,
+    question: Question,
     word: u64,
-    codeword: u64,
-    columns: usize,
-) -> Result<String, AllocError>
-    ensures { IfOk result (λ t. string_bytes t ≡ encode_line word codeword columns) }
-{
-    let bits = bits_text(heap, codeword, columns)?;
-    format!(in heap; "encode {word}: {codeword} (columns {bits})")
-}
-
-pub(crate) fn syndrome_line(
-    heap: Global,
-    word: u64,
-    syndrome: u64,
-    rows: usize,
-) -> Result<String, AllocError>
-    ensures { IfOk result (λ t. string_bytes t ≡ syndrome_line word syndrome rows) }
-{
-    let bits = bits_text(heap, syndrome, rows)?;
-    format!(in heap; "syndrome {word}: {syndrome} (rows {bits})")
-}
-
-pub(crate) fn data_line(
-    heap: Global,
-    word: u64,
-    message: u64,
+    value: u64,
     count: usize,
 ) -> Result<String, AllocError>
-    ensures { IfOk result (λ t. string_bytes t ≡ data_line word message count) }
+    ensures { IfOk result (λ t. string_bytes t ≡ word_line question word value count) }
 {
-    let bits = bits_text(heap, message, count)?;
-    format!(in heap; "data {word}: {message} (bits {bits})")
+    let places = question.places();
+    let bits = bits_text(heap, value, count)?;
+    format!(in heap; "{question} {word}: {value} ({places} {bits})")
 }
 
 // What is said of a code that was opened.
-pub(crate) fn opened_line(
-    heap: Global,
-    columns: usize,
-    data_count: usize,
-    checks: usize,
-) -> Result<String, AllocError>
-    ensures { IfOk result (λ t. string_bytes t ≡ opened_line columns data_count checks) }
+pub(crate) fn opened_line(heap: Global, code: &Code) -> Result<String, AllocError>
+    ensures { IfOk result (λ t. string_bytes t ≡ opened_text (columns_of code.now) (data_of code.now)) }
 {
-    format!(in heap; "code of {columns} columns: {data_count} data, {checks} check")
+    format!(in heap;
+        "code of {} columns: {} data, {} check",
+        code.column_count(),
+        code.data_count(),
+        code.check_count()
+    )
 }
 
 // The rows of a drawing are not as many as the check columns that its data columns leave.
@@ -58,14 +39,16 @@ pub(crate) fn row_count_line(
     heap: Global,
     number: usize,
     rows: usize,
-    data_count: usize,
-    columns: usize,
-    checks: usize,
+    code: &Code,
 ) -> Result<String, AllocError> {
-    let drawn = counted_text(heap, rows, "row is", "rows are")?;
-    let named = counted_text(heap, data_count, "data column", "data columns")?;
-    let leave = noun_for(data_count, "leaves", "leave");
-    format!(in heap; "line {number}: {drawn} drawn, but {named} of {columns} {leave} {checks}")
+    let (columns, count) = (code.column_count(), code.data_count());
+    let are = noun_for(rows, "row is", "rows are");
+    let named = noun_for(count, "data column", "data columns");
+    let leave = noun_for(count, "leaves", "leave");
+    let checks = code.check_count();
+    format!(in heap;
+        "line {number}: {rows} {are} drawn, but {count} {named} of {columns} {leave} {checks}"
+    )
 }
 
 // What is said of a drawing that the script leaves open.
@@ -90,7 +73,8 @@ pub(crate) fn wide_word_line(
     format!(in heap; "refused {number}: word {word} has a bit beyond the {columns} columns")
 }
 
-// A data word with a bit beyond the data columns is refused.
+// A data word with a bit beyond the data columns is refused. It is not one function with the line above:
+// that one counts its columns with no singular, so what the two share is a single `format!`.
 pub(crate) fn wide_data_word_line(
     heap: Global,
     refusal: Refusal,

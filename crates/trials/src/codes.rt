@@ -1,43 +1,34 @@
 use crate::naive;
 use code::{Code, MOST_COLUMNS, Refusal, worked_examples};
 use std::alloc::{AllocError, Global};
+use std::iter;
 use std::process::Abort;
 use std::test::Fail;
 
-// The number of the refusal, 0 where the code opens.
-fn refused(values: &[u64], numbers: &[usize]) -> u8 {
-    match Code::open(values, numbers) {
-        Ok(_) => 0,
-        Err(e) => e.number(),
-    }
+// The number of the refusal, where the code does not open.
+fn refused(values: &[u64], numbers: &[usize]) -> Option<u8> {
+    Code::open(values, numbers).err().map(|e| e.number())
 }
 
 // The index that goes with the refusal.
 fn refused_at(values: &[u64], numbers: &[usize]) -> Option<u64> {
-    match Code::open(values, numbers) {
-        Ok(_) => None,
-        Err(e) => e.value_at(0),
-    }
+    Code::open(values, numbers)
+        .err()
+        .and_then(|e| e.value_at(0))
 }
 
 // The column values 1 to count: the Hamming codes.
 fn hamming_values(heap: Global, count: u64) -> Result<Vec<u64>, AllocError> {
-    let mut values = Vec::new(heap);
-    for v in 0..count {
-        values.push(v + 1)?;
-    }
-    Ok(values)
+    (1..=count).collect(heap)
 }
 
 // The columns of those that do not hold a unit.
 fn hamming_data(heap: Global, count: u64) -> Result<Vec<usize>, AllocError> {
-    let mut numbers = Vec::new(heap);
-    for v in 0..count {
-        if (v + 1).count_ones() != 1 {
-            numbers.push(v as usize)?;
-        }
-    }
-    Ok(numbers)
+    (1..=count)
+        .enumerate()
+        .filter(|(_, value)| value.count_ones() != 1)
+        .map(|(j, _)| j)
+        .collect(heap)
 }
 
 // Some word of the width, another one for each i.
@@ -81,7 +72,7 @@ fn widest_code_opens(rt: HostRuntime) -> Result<(), Fail> {
     let heap = rt.alloc();
     let values = hamming_values(heap, 63)?;
     let numbers = hamming_data(heap, 63)?;
-    let code = Code::open(values.as_slice(), numbers.as_slice())?;
+    let code = Code::open(&values, &numbers)?;
     assert_eq!(rt; code.column_count(), MOST_COLUMNS);
     assert_eq!(rt; code.data_count(), 57);
     assert_eq!(rt; code.check_count(), 6);
@@ -99,40 +90,33 @@ fn column_count_is_bounded(rt: HostRuntime) -> Result<(), Fail> {
     let heap = rt.alloc();
     let values = hamming_values(heap, 64)?;
     let numbers = hamming_data(heap, 64)?;
-    assert_eq!(rt; refused(values.as_slice(), numbers.as_slice()), 1);
-    assert_eq!(rt; refused(&[], &[]), 1);
-    assert_eq!(rt; refused(&[1], &[0]), 1);
+    assert_eq!(rt; refused(&values, &numbers), Some(1));
+    assert_eq!(rt; refused(&[], &[]), Some(1));
+    assert_eq!(rt; refused(&[1], &[0]), Some(1));
     // the first refusal is given where several hold
-    assert_eq!(rt; refused(&[9], &[7, 7]), 1);
+    assert_eq!(rt; refused(&[9], &[7, 7]), Some(1));
     Ok(())
 }
 
 #[test]
 fn data_columns_are_bounded(rt: HostRuntime) -> Result<(), Fail> {
-    assert_eq!(rt; refused(&[1, 1], &[]), 2);
-    assert_eq!(rt; refused(&[1, 1], &[0, 1]), 2);
-    assert_eq!(rt; refused(&[1, 1], &[0, 1, 2]), 2);
-    let mut values = vec![in rt.alloc(); 0u64; 18]?;
-    for (i, v) in values.iter_mut().enumerate() {
-        if i < 18 {
-            *v = 1 << i;
-        }
-    }
+    assert_eq!(rt; refused(&[1, 1], &[]), Some(2));
+    assert_eq!(rt; refused(&[1, 1], &[0, 1]), Some(2));
+    assert_eq!(rt; refused(&[1, 1], &[0, 1, 2]), Some(2));
+    let values: Vec<u64> = (0..18).map(|i| 1 << i).collect(rt.alloc())?;
     // 17 rows are one too many, whatever the values are
-    assert_eq!(rt; refused(values.as_slice(), &[17]), 2);
-    assert_eq!(rt; refused(&[1, 1, 9], &[0, 1, 7]), 2);
+    assert_eq!(rt; refused(&values, &[17]), Some(2));
+    assert_eq!(rt; refused(&[1, 1, 9], &[0, 1, 7]), Some(2));
     Ok(())
 }
 
 #[test]
 fn sixteen_rows_open(rt: HostRuntime) -> Result<(), Fail> {
-    let mut values = vec![in rt.alloc(); 0u64; 17]?;
-    for (i, v) in values.iter_mut().enumerate() {
-        if i < 16 {
-            *v = 1 << i;
-        }
-    }
-    let code = Code::open(values.as_slice(), &[16])?;
+    let values: Vec<u64> = (0..16)
+        .map(|i| 1 << i)
+        .chain(iter::once(0))
+        .collect(rt.alloc())?;
+    let code = Code::open(&values, &[16])?;
     assert_eq!(rt; code.check_count(), 16);
     agrees(&rt, &code)?;
     assert_eq!(rt; code.encode(1), Ok(1 << 16));
@@ -143,19 +127,19 @@ fn sixteen_rows_open(rt: HostRuntime) -> Result<(), Fail> {
 #[test]
 fn first_bad_data_column_is_named(rt: HostRuntime) {
     let values = [3, 5, 6, 7, 1, 2, 4];
-    assert_eq!(rt; refused(&values, &[0, 1, 2, 7]), 3);
+    assert_eq!(rt; refused(&values, &[0, 1, 2, 7]), Some(3));
     assert_eq!(rt; refused_at(&values, &[0, 1, 2, 7]), Some(3));
     assert_eq!(rt; refused_at(&values, &[7, 1, 2, 7]), Some(0));
     assert_eq!(rt; refused_at(&values, &[0, 1, 1, 0]), Some(2));
     assert_eq!(rt; refused_at(&values, &[1, 0, 2, 9]), Some(1));
     // before any column value is looked at
-    assert_eq!(rt; refused(&[9, 5, 6, 7, 1, 2, 4], &[0, 0, 2, 3]), 3);
+    assert_eq!(rt; refused(&[9, 5, 6, 7, 1, 2, 4], &[0, 0, 2, 3]), Some(3));
 }
 
 #[test]
 fn first_high_value_is_named(rt: HostRuntime) {
     let numbers = [0, 1, 2, 3];
-    assert_eq!(rt; refused(&[3, 5, 9, 7, 1, 2, 4], &numbers), 4);
+    assert_eq!(rt; refused(&[3, 5, 9, 7, 1, 2, 4], &numbers), Some(4));
     assert_eq!(rt; refused_at(&[3, 5, 9, 7, 1, 2, 4], &numbers), Some(2));
     assert_eq!(rt; refused_at(&[3, 5, 6, 7, 1, 2, 8], &numbers), Some(6));
     assert_eq!(rt;
@@ -167,14 +151,14 @@ fn first_high_value_is_named(rt: HostRuntime) {
 #[test]
 fn check_columns_are_the_units(rt: HostRuntime) -> Result<(), Fail> {
     let numbers = [0, 1, 2, 3];
-    assert_eq!(rt; refused(&[3, 5, 6, 7, 1, 2, 2], &numbers), 5);
-    assert_eq!(rt; refused(&[3, 5, 6, 7, 1, 2, 0], &numbers), 5);
-    assert_eq!(rt; refused(&[3, 5, 6, 7, 1, 2, 3], &numbers), 5);
-    assert_eq!(rt; refused(&[1, 2, 4, 7, 1, 2, 7], &numbers), 5);
-    assert_eq!(rt; refused(&[1, 0], &[0]), 5);
+    assert_eq!(rt; refused(&[3, 5, 6, 7, 1, 2, 2], &numbers), Some(5));
+    assert_eq!(rt; refused(&[3, 5, 6, 7, 1, 2, 0], &numbers), Some(5));
+    assert_eq!(rt; refused(&[3, 5, 6, 7, 1, 2, 3], &numbers), Some(5));
+    assert_eq!(rt; refused(&[1, 2, 4, 7, 1, 2, 7], &numbers), Some(5));
+    assert_eq!(rt; refused(&[1, 0], &[0]), Some(5));
     assert_eq!(rt; refused_at(&[1, 0], &[0]), None);
     // in any order, and between the data columns
-    assert_eq!(rt; refused(&[3, 5, 6, 7, 4, 1, 2], &numbers), 0);
+    assert_eq!(rt; refused(&[3, 5, 6, 7, 4, 1, 2], &numbers), None);
     let code = Code::open(&[4, 3, 1, 5, 6, 2, 7], &[1, 3, 4, 6])?;
     agrees(&rt, &code)?;
     assert_eq!(rt; code.encode(1), Ok(0b10_0110));

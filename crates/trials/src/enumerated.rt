@@ -3,51 +3,27 @@ use crate::naive;
 use std::alloc::{AllocError, Global};
 
 // How many of the lowest 64 columns hold a one.
-fn ones(word: u64) -> usize {
-    let mut count: usize = 0;
-    for j in 0..64 {
-        if naive::bit(word, j) {
-            count = count.saturating_add(1);
-        }
-    }
-    count
+pub(crate) fn ones(word: u64) -> usize {
+    (0..64).filter(|j| naive::bit(word, *j)).count()
 }
 
-// Whether the ones of the word, `size` of them, stand side by side.
-fn is_run(word: u64, size: usize) -> bool {
-    let mut longest: usize = 0;
-    let mut length: usize = 0;
-    for j in 0..64 {
-        length = if naive::bit(word, j) {
-            length.saturating_add(1)
-        } else {
-            0
-        };
-        longest = longest.max(length);
-    }
-    ones(word) == size && longest == size
+// Whether the ones of the word, `size` of them, stand side by side: one of them alone has none below it.
+pub(crate) fn is_run(word: u64, size: usize) -> bool {
+    let lowest = (0..64)
+        .filter(|j| naive::bit(word, *j) && !naive::bit(word, j.wrapping_sub(1)))
+        .count();
+    ones(word) == size && lowest == 1
 }
 
-// The words below `end` with so many ones.
-pub(crate) fn words(heap: Global, end: u64, count: usize) -> Result<Vec<u64>, AllocError> {
-    let mut found = Vec::new(heap);
-    for word in 0..end {
-        if ones(word) == count {
-            found.push(word)?;
-        }
-    }
-    Ok(found)
-}
-
-// The words below `end` that are runs of so many ones.
-pub(crate) fn runs(heap: Global, end: u64, size: usize) -> Result<Vec<u64>, AllocError> {
-    let mut found = Vec::new(heap);
-    for word in 0..end {
-        if is_run(word, size) {
-            found.push(word)?;
-        }
-    }
-    Ok(found)
+// The words below `end` that pass the test.
+pub(crate) fn words<F: Fn(u64) -> bool>(
+    heap: Global,
+    end: u64,
+    test: F,
+) -> Result<Vec<u64>, AllocError>
+    requires { F.IsAlwaysCallable test }
+{
+    (0..end).filter(|word| test(*word)).collect(heap)
 }
 
 fn weight(column: usize) -> u64 {

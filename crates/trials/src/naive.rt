@@ -5,30 +5,28 @@ pub(crate) fn bit(word: u64, j: usize) -> bool {
     j < 64 && (word >> j) % 2 == 1
 }
 
+// Whether the row covers an odd number of the ones of the word.
+fn is_odd(values: &[u64], word: u64, row: usize) -> bool {
+    let covered = values
+        .iter()
+        .enumerate()
+        .filter(|(j, v)| bit(**v, row) && bit(word, *j))
+        .count();
+    covered % 2 == 1
+}
+
 // The syndrome, row by row: the parity of the ones that a row covers.
 pub(crate) fn syndrome(values: &[u64], word: u64) -> u64 {
-    let mut sum = 0;
-    for i in 0..16 {
-        let mut odd = false;
-        for (j, v) in values.iter().enumerate() {
-            if bit(*v, i) && bit(word, j) {
-                odd = !odd;
-            }
-        }
-        if odd {
-            sum |= 1 << i;
-        }
-    }
-    sum
+    (0..16)
+        .filter(|row| is_odd(values, word, *row))
+        .fold(0, |sum, row| sum | 1 << row)
 }
 
 // The bits of the word in the data columns.
 pub(crate) fn data_bits(numbers: &[usize], word: u64) -> u64 {
-    let mut bits = 0;
-    for (i, j) in numbers.iter().enumerate() {
-        if i < 64 && bit(word, *j) {
-            bits |= 1 << i;
-        }
-    }
-    bits
+    numbers
+        .iter()
+        .enumerate()
+        .filter(|(_, j)| bit(word, **j))
+        .fold(0, |bits, (i, _)| if i < 64 { bits | 1 << i } else { bits })
 }

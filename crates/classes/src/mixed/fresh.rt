@@ -2,8 +2,9 @@ ghost use Rattle.std.specs.Prelude.{◌≡◌, []};
 ghost use Rattle.classes.specs.Meaning.{items_of, width_of};
 
 use crate::mixed::Mixed;
-use code::LEAST_COLUMNS;
-use listings::{Item, MOST_ITEMS};
+use crate::width::Width;
+use code::Short;
+use listings::Item;
 
 // A fresh mixed class has two columns and no patterns.
 impl Default for Mixed {
@@ -11,9 +12,8 @@ impl Default for Mixed {
 
     fn default() -> Self {
         Mixed {
-            width: LEAST_COLUMNS,
-            items: [Item::Mask(0); MOST_ITEMS],
-            size: 0,
+            width: Width::least(),
+            items: Short::new(Item::Mask(0)),
         }
     }
 }

@@ -3,10 +3,9 @@ ghost use Rattle.listings.specs.Limits.{most_items};
 ghost use Rattle.classes.specs.Meaning.{MixedOpened, items_of, width_of};
 ghost use Rattle.classes.specs.Opening.{Tells, item_refusal, mixed_refusal};
 
-use crate::check::{check_item, check_items};
-use crate::items::kept;
+use crate::check::{Element, check_all};
 use crate::mixed::Mixed;
-use code::{LEAST_COLUMNS, MOST_COLUMNS, Refusal};
+use code::{Refusal, Short};
 use listings::{Item, MOST_ITEMS};
 
 impl Mixed {
@@ -15,17 +14,10 @@ impl Mixed {
         ensures opened { MixedOpened width items.now result }
         ensures tells { Tells width most_items (item_refusal width) items.now (mixed_refusal width items.now) }
     {
-        if width < LEAST_COLUMNS || width > MOST_COLUMNS {
-            return Err(Refusal::OutOfBounds);
-        }
-        if items.len() > MOST_ITEMS {
-            return Err(Refusal::OutOfBounds);
-        }
-        check_items(width, items)?;
+        let width = check_all(width, items, MOST_ITEMS)?;
         Ok(Mixed {
             width,
-            items: kept(items),
-            size: items.len(),
+            items: Short::from_slice(items, Item::Mask(0)).unwrap(),
         })
     }
 
@@ -33,23 +25,19 @@ impl Mixed {
     pub fn items(&self) -> &[Item]
         ensures { result.now ≡ items_of self.now }
     {
-        &self.items[0..self.size]
+        self.items.as_slice()
     }
 
     // The class with one item more: as if it had been opened with that item at the end.
     pub fn with_item(&self, item: Item) -> Result<Mixed, Refusal>
         ensures { MixedOpened (width_of self.now) (items_of self.now ++ (item ∷ [])) result }
     {
-        if self.size >= MOST_ITEMS {
-            return Err(Refusal::OutOfBounds);
-        }
-        check_item(self.width, self.size, item)?;
         let mut items = self.items;
-        items[self.size] = item;
+        items.push(item).or(Err(Refusal::OutOfBounds))?;
+        item.check(self.width, self.items().len())?;
         Ok(Mixed {
             width: self.width,
             items,
-            size: self.size + 1,
         })
     }
 }

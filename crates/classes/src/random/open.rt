@@ -3,19 +3,17 @@ ghost use Rattle.listings.specs.Subject.{ListsRandom};
 ghost use Rattle.classes.specs.Meaning.{RandomOpened, words_of};
 
 use crate::random::Random;
-use code::{LEAST_COLUMNS, MOST_COLUMNS, Refusal};
-use listings::MOST_ONES;
+use crate::width::Width;
+use code::Refusal;
 
 impl Random {
-    // The class of the words of `width` bits with `ones` ones.
+    // The class of the words of `width` bits with `ones` ones. It stays beside `Burst::open`, which says why.
     pub fn open(width: usize, ones: usize) -> Result<Random, Refusal>
         ensures value { RandomOpened width ones result }
         ensures lists { IfOk result (λ c. ListsRandom width ones (words_of c)) }
     {
-        if width < LEAST_COLUMNS || width > MOST_COLUMNS {
-            return Err(Refusal::OutOfBounds);
-        }
-        if ones < 1 || ones > MOST_ONES || ones > width {
+        let width = Width::open(width)?;
+        if !width.takes_ones(ones) {
             return Err(Refusal::OutOfBounds);
         }
         Ok(Random { width, ones })

@@ -10,20 +10,20 @@ impl Code {
         ensures value { result.now ≡ columns_of self.now }
         ensures wellformed { Wellformed (columns_of self.now) (data_of self.now) }
     {
-        &self.values[0..self.n]
+        self.values.as_slice()
     }
 
     // The data column numbers, rising.
     pub fn data_columns(&self) -> &[usize]
         ensures { result.now ≡ data_of self.now }
     {
-        &self.message[0..self.k]
+        self.message.as_slice()
     }
 
     // The check column of each row.
     pub(crate) fn check_columns(&self) -> &[usize]
         ensures { result.now ≡ check_columns (columns_of self.now) (data_of self.now) }
     {
-        &self.checks[0..self.n - self.k]
+        self.checks.as_slice()
     }
 }

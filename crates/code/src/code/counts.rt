@@ -9,14 +9,14 @@ impl Code {
     pub fn column_count(&self) -> usize
         ensures { result ≡ length (columns_of self.now) }
     {
-        self.n
+        self.column_values().len()
     }
 
     // How many data columns there are: the width k of a data word.
     pub fn data_count(&self) -> usize
         ensures { result ≡ length (data_of self.now) }
     {
-        self.k
+        self.data_columns().len()
     }
 
     // How many rows, and so check columns, there are: the width r of a syndrome.

@@ -6,7 +6,7 @@ ghost use Rattle.code.specs.Meaning.{columns_of, data_of, within};
 
 use crate::code::Code;
 use crate::refusal::Refusal;
-use crate::words::{combined, gathered, placed, power};
+use crate::words::{combined, fits, gathered, placed};
 
 impl Code {
     // The one code word with these data bits.
@@ -14,9 +14,7 @@ impl Code {
         ensures value { result ≡ within (length (data_of self.now)) word (encoding (columns_of self.now) (data_of self.now) word) }
         ensures one { OneCodeword (columns_of self.now) (data_of self.now) }
     {
-        if word >= power(self.k) {
-            return Err(Refusal::TooWide);
-        }
+        fits(word, self.data_count())?;
         let carried = placed(self.data_columns(), word);
         let syndrome = combined(self.column_values(), carried);
         Ok(carried ^ placed(self.check_columns(), syndrome))
@@ -28,9 +26,7 @@ impl Code {
         ensures one { OneDataWord (columns_of self.now) (data_of self.now) }
         ensures back { ReadsBack (columns_of self.now) (data_of self.now) }
     {
-        if word >= power(self.n) {
-            return Err(Refusal::TooWide);
-        }
+        fits(word, self.column_count())?;
         Ok(gathered(self.data_columns(), word))
     }
 }

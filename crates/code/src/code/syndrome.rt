@@ -5,7 +5,7 @@ ghost use Rattle.code.specs.Meaning.{columns_of, data_of, within};
 
 use crate::code::Code;
 use crate::refusal::Refusal;
-use crate::words::{combined, power};
+use crate::words::{combined, fits};
 
 impl Code {
     // The xor of the values of the columns whose bit in the word is one.
@@ -14,9 +14,7 @@ impl Code {
         ensures linear { Linear (columns_of self.now) }
         ensures fits { SyndromesFit (columns_of self.now) (data_of self.now) }
     {
-        if word >= power(self.n) {
-            return Err(Refusal::TooWide);
-        }
+        fits(word, self.column_count())?;
         Ok(combined(self.column_values(), word))
     }
 }

@@ -9,14 +9,12 @@ impl Design {
     pub fn new(code: Code) -> Design
         ensures { Begun code result }
     {
-        match Mixed::open(code.column_count(), &[]) {
-            Ok(none) => Design {
-                code,
-                first: none,
-                second: none,
-            },
-            // a class may be as wide as any code
-            Err(_) => unreachable(),
+        // a class may be as wide as any code
+        let none = Mixed::open(code.column_count(), &[]).unwrap();
+        Design {
+            code,
+            first: none,
+            second: none,
         }
     }
 }

@@ -10,23 +10,15 @@ impl Design {
     pub fn with_item(&self, duty: Duty, item: Item) -> Result<Design, Refusal>
         ensures { Named self.now duty item result }
     {
-        match duty {
-            Duty::Correct => {
-                let first = self.first.with_item(item)?;
-                Ok(Design {
-                    code: self.code,
-                    first,
-                    second: self.second,
-                })
-            }
-            Duty::Detect => {
-                let second = self.second.with_item(item)?;
-                Ok(Design {
-                    code: self.code,
-                    first: self.first,
-                    second,
-                })
-            }
-        }
+        let class = self.class(duty).with_item(item)?;
+        let (first, second) = match duty {
+            Duty::Correct => (class, self.second),
+            Duty::Detect => (self.first, class),
+        };
+        Ok(Design {
+            code: self.code,
+            first,
+            second,
+        })
     }
 }

@@ -1,11 +1,12 @@
-use Rattle.std.proofs.Common.{vec_items}
-use Rattle.design.proofs.Listing.{all_read, more_read}
+use Rattle.std.proofs.Common.{◌≡◌, ℕ, List, drop, ap, ◌∙◌}
+use Rattle.std.proofs.lemmas.Iterator.{YieldsList-from_take, items_from_collect}
+use Rattle.std.proofs.lemmas.Iterator.Consumers.{YieldsList-from_first}
 use Rattle.design.proofs.list.first_patterns.Goals as goal
 
-pub returns-in-Err : goal.returns-in-Err
-returns-in-Err g c =
-    all_read (g.C.ErrorClass.patterns c.args.class.now) (vec_items c.loop-i.listed) c.loop-i.i c.args.limit c.pattern_at.result c.in-Err.field-0 c.pattern_at.ensures c.in-Err.is c.loop-i-test.true c.loop-i.invariant
-
-pub loop-i-preserved : goal.loop-i-preserved
-loop-i-preserved g c =
-    more_read (g.C.ErrorClass.patterns c.args.class.now) (vec_items c.loop-i.listed) (vec_items c.push.new.self) c.loop-i.i c.in-Ok.pattern c.pattern_at.result c.pattern_at.ensures c.in-Ok.is c.loop-i.invariant c.in_ok-push-in-Ok.ensures.items
+pub returns : goal.returns
+returns g c =
+    let all : List ℕ = g.C.ErrorClass.patterns c.args.class.now in
+    let at_first : drop c.take.result.iter.next (g.C.ErrorClass.patterns c.take.result.iter.class.now) ≡ all
+    = ap (λ i. drop i (g.C.ErrorClass.patterns c.take.result.iter.class.now)) (ap (λ s. s.next) c.take.ensures.source ∙ c.patterns_of.ensures.first)
+    ∙ ap (λ x. g.C.ErrorClass.patterns x) (ap (λ s. s.class.now) c.take.ensures.source ∙ c.patterns_of.ensures.class) in
+    items_from_collect _ c.collect.ensures.ran (YieldsList-from_take c.args.limit (YieldsList-from_first (λ x. x) (λ s. drop s.next (g.C.ErrorClass.patterns s.class.now)) all at_first) cc)

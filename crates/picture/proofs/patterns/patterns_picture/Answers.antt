@@ -1,6 +1,6 @@
-use Rattle.std.proofs.Common.{◌≡◌, ℕ, List, ◌++◌, length, IfOk, string_bytes, codes, ap, ◌∙◌, subst}
+use Rattle.std.proofs.Common.{◌≡◌, ℕ, List, ◌++◌, length, get_or, IfOk, string_bytes, codes, ap, ◌∙◌, subst, rules}
 use Rattle.std.specs.List.{range_with_len}
-use Rattle.picture.specs.Patterned.{column_width, pattern_lines, patterned}
+use Rattle.picture.specs.Patterned.{column_width, pattern_line, pattern_lines, patterned}
 use Rattle.picture.specs.Pictured.{number_line, widest}
 use Rattle.picture.proofs.patterns.patterns_picture.Goals as goal
 
@@ -11,9 +11,9 @@ returns c =
     let n : ℕ = c.args.columns in
     let ns : List ℕ = range_with_len 0 n in
     let table : List ℕ → ℕ → List ℕ = λ numbers w. number_line (codes "column") w numbers ++ pattern_lines w n ps (length ps) 0 in
-    let first : c.as_slice.result.now ≡ ns = c.as_slice.ensures.value ∙ c.in_ok-numbers.ensures in
-    let second : c.as_slice-2.result.now ≡ ns = c.as_slice-2.ensures.value ∙ c.in_ok-numbers.ensures in
-    let wide : c.in_ok-width.width ≡ column_width n = c.in_ok-width.ensures ∙ ap widest first in
-    let same : table c.as_slice-2.result.now c.in_ok-width.width ≡ table ns (column_width n) =
-    ap (λ (l : List ℕ). table l c.in_ok-width.width) second ∙ ap (λ (w : ℕ). table ns w) wide in
-    subst (λ (l : List ℕ). IfOk c.pattern_lines.result (λ t. string_bytes t ≡ l)) same c.pattern_lines.ensures
+    let first : c.deref.result.now ≡ ns = c.deref.ensures.value ∙ c.in_ok-numbers.ensures in
+    let second : c.deref-2.result.now ≡ ns = c.deref-2.ensures.value ∙ c.in_ok-numbers.ensures in
+    let wide : c.widest_of-width.result ≡ column_width n = c.widest_of-width.ensures ∙ ap widest first in
+    let same : table c.deref-2.result.now c.widest_of-width.result ≡ table ns (column_width n) =
+    ap (λ (l : List ℕ). table l c.widest_of-width.result) second ∙ ap (λ (w : ℕ). table ns w) wide in
+    subst (λ (l : List ℕ). IfOk c.lines.result (λ t. string_bytes t ≡ l)) same (c.lines.ensures (λ i. pattern_line c.widest_of-width.result n i (get_or ps i 0)) (λ i r k. search rules))

@@ -1,27 +1,24 @@
-use Rattle.std.proofs.Common.{◌≡◌, ℕ, suc, ◌<◌, Bool, cond, List, [], ◌∷◌, ◌++◌, length, get_or, sym, refl, ap, ◌∙◌, suc-le-suc, zero-le, lit<, ne_eqb}
-use Rattle.std.proofs.lemmas.Str.Pattern.{split_parts}
-use Rattle.std.proofs.lemmas.Option.{MatchOption-at_some, MatchOption-at_none}
+use Rattle.std.proofs.Common.{not, eqb, append-nil, Option, Some, None, Bor, ◌≡◌, ℕ, suc, ◌<◌, Bool, cond, List, [], ◌∷◌, ◌++◌, length, get_or, sym, refl, ap, ◌∙◌, suc-le-suc, zero-le, lit<, ne_eqb, rules}
+use Rattle.std.proofs.lemmas.List.Sums.{take_while-cons}
+use Rattle.std.specs.Option.{MatchOption}
+use Rattle.std.proofs.lemmas.Str.Pattern.{IsSplitOnceResult, split_parts}
 use Rattle.script.specs.Comments.{uncommented}
 use Rattle.script.proofs.comment.without_comment.Goals as goal
 
 -- before the first number sign nothing is cut off
-kept : (bs : List ℕ) → ((i : ℕ) → i < length bs → get_or bs i 0 ≡ 35 → ⊥) → uncommented bs ≡ bs
-kept [] h = refl
-kept (b ∷ bs) h =
-    ap (λ (t : Bool). cond t [] (b ∷ uncommented bs)) (ne_eqb b 35 (h 0 (suc-le-suc zero-le))) ∙ ap (λ (l : List ℕ). b ∷ l) (kept bs (λ i l. h (suc i) (suc-le-suc l)))
+kept : (bs rest : List ℕ) → ((i : ℕ) → i < length bs → get_or bs i 0 ≡ 35 → ⊥) → uncommented (bs ++ rest) ≡ bs ++ uncommented rest
+kept [] rest h = refl
+kept (b ∷ bs) rest h =
+    take_while-cons (λ x. not (eqb x 35)) b (bs ++ rest) ∙ (ap (λ (t : Bool). cond (not t) (b ∷ uncommented (bs ++ rest)) []) (ne_eqb b 35 (h 0 (suc-le-suc zero-le))) ∙ ap (λ (l : List ℕ). b ∷ l) (kept bs rest (λ i l. h (suc i) (suc-le-suc l))))
 
-cut_off : (bs rest : List ℕ) → ((i : ℕ) → i < length bs → get_or bs i 0 ≡ 35 → ⊥) → uncommented (bs ++ (35 ∷ rest)) ≡ bs
-cut_off [] rest h = refl
-cut_off (b ∷ bs) rest h =
-    ap (λ (t : Bool). cond t [] (b ∷ uncommented (bs ++ (35 ∷ rest)))) (ne_eqb b 35 (h 0 (suc-le-suc zero-le))) ∙ ap (λ (l : List ℕ). b ∷ l) (cut_off bs rest (λ i l. h (suc i) (suc-le-suc l)))
+-- what stands before the first number sign, or all of it where there is none
+told : (bs : List ℕ) (r : Option (Bor (List ℕ) × Bor (List ℕ))) → IsSplitOnceResult 35 bs r → MatchOption r (bs ≡ uncommented bs) (λ x. x.0.now ≡ uncommented bs)
+told bs None h = sym (ap uncommented (sym (append-nil bs)) ∙ (kept bs [] (split_parts 35 bs None h (lit< tt)) ∙ append-nil bs))
+told bs (Some x) h =
+    let p = split_parts 35 bs (Some x) h (lit< tt) in
+    sym (ap uncommented p.0 ∙ (kept x.0.now (35 ∷ x.1.now) p.1 ∙ append-nil x.0.now))
 
-pub returns-in-Some : goal.returns-in-Some
-returns-in-Some c =
-    let told = split_parts 35 c.args.line.now c.split_once.result c.split_once.ensures.cases (lit< tt) in
-    let here = MatchOption-at_some _ _ (c.in-Some.before, c.in-Some.field-0-1) c.in-Some.is told in
-    sym (ap uncommented here.0 ∙ cut_off c.in-Some.before.now c.in-Some.field-0-1.now here.1)
-
-pub returns-in-None : goal.returns-in-None
-returns-in-None c =
-    let told = split_parts 35 c.args.line.now c.split_once.result c.split_once.ensures.cases (lit< tt) in
-    sym (kept c.args.line.now (MatchOption-at_none _ _ c.in-None.is told))
+pub returns : goal.returns
+returns c =
+    let t = told c.args.line.now c.split_once.result c.split_once.ensures.cases in
+    search (rules, t)

@@ -1,6 +1,5 @@
-use Rattle.code.proofs.Values.{part, every_code}
+use Rattle.code.proofs.Values.{every_code}
 use Rattle.code.proofs.code.Code.column_values.Goals as goal
 
-pub returns : goal.returns
-returns c = let self = c.args.self.now in
-    record { value = part self.n self.values; wellformed = every_code self }
+pub returns-clause-wellformed : goal.returns-clause-wellformed
+returns-clause-wellformed c = every_code c.args.self.now

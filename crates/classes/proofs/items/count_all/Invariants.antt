@@ -1,6 +1,0 @@
-use Rattle.std.proofs.Common.{◌≡◌, ◌+◌, length, drop}
-use Rattle.listings.specs.Items.{mixed}
-use Rattle.classes.proofs.items.count_all.Given as goal
-
-abbrev pub invariant-loop-item : goal.invariant-loop-item
-invariant-loop-item l = l.total + length (mixed l.width (drop l.item-index l.items)) ≡ length (mixed l.width l.items)

@@ -1,8 +1,0 @@
-use Rattle.std.proofs.Common.{◌≡◌, IfOk, string_bytes, codes, subst, rules}
-use Rattle.script.specs.Replies.{word_line}
-use Rattle.script.proofs.reply.encode_line.Goals as goal
-
-pub returns : goal.returns
-returns c =
-    subst (λ bits. IfOk c.format.result (λ t. string_bytes t ≡ word_line (codes "encode ") c.args.word c.args.codeword (codes " (columns ") bits)) c.in_ok-bits.ensures
-    (search rules)
