@@ -40,9 +40,9 @@ pub enum Refusal {
     ColumnValue(usize),
     // the check columns do not hold the r units, each once
     NotUnits,
-    // two patterns of one syndrome, both to be corrected
+    // two patterns of one syndrome, the later one to be corrected
     CorrectableClash(Clash),
-    // two patterns of one syndrome, the later one only to be flagged
+    // two patterns of one syndrome, the later one to be flagged
     DetectableClash(Clash),
     // widths that do not fit each other
     WidthsDiffer,

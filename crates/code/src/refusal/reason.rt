@@ -22,12 +22,12 @@ impl fmt::Display for Refusal {
             Refusal::NotUnits => f.write_str("the check columns do not hold the units, each once"),
             Refusal::CorrectableClash(clash) => write!(
                 f,
-                "patterns {} and {} are both to be corrected and have one syndrome",
+                "patterns {} and {} have one syndrome, and the second is to be corrected",
                 clash.earlier, clash.later
             ),
             Refusal::DetectableClash(clash) => write!(
                 f,
-                "pattern {} is to be flagged and has the syndrome of {}, to be corrected",
+                "pattern {} is to be flagged and has the syndrome of {}",
                 clash.later, clash.earlier
             ),
             Refusal::WidthsDiffer => f.write_str("the widths do not fit each other"),

@@ -13,10 +13,7 @@ pub(crate) fn pattern<C: ErrorClass>(class: &C, i: usize) -> u64
     requires { i < length (C.ErrorClass.patterns class.now) }
     ensures { result ≡ slice_index (C.ErrorClass.patterns class.now) i }
 {
-    match class.pattern_at(i) {
-        Ok(pattern) => pattern,
-        Err(_) => 0,
-    }
+    class.pattern_at(i).unwrap()
 }
 
 // The syndrome of a word of n bits.
@@ -24,10 +21,7 @@ pub(crate) fn syndrome_of(code: &Code, word: u64) -> u64
     requires { word < 2 ^ length (columns_of code.now) }
     ensures { result ≡ syndrome (columns_of code.now) word }
 {
-    match code.syndrome(word) {
-        Ok(syndrome) => syndrome,
-        Err(_) => 0,
-    }
+    code.syndrome(word).unwrap()
 }
 
 // The data bits of a word of n bits.
@@ -35,8 +29,5 @@ pub(crate) fn data_bits_of(code: &Code, word: u64) -> u64
     requires { word < 2 ^ length (columns_of code.now) }
     ensures { result ≡ gather (data_of code.now) word }
 {
-    match code.data_bits(word) {
-        Ok(bits) => bits,
-        Err(_) => 0,
-    }
+    code.data_bits(word).unwrap()
 }

@@ -1,5 +1,5 @@
 -- The verdict on a design: a code with the column values cs and the data columns ds, a first class of width m that lists ps, and a second class of width o that lists qs.
-use Rattle.std.specs.Prelude.{◌≡◌, ℕ, ◌^◌, ◌<◌, Bool, true, false, not, ◌&&◌, ◌||◌, ◌⊎◌, List, length, Some, None, Ok, Err, Option, Result, ◌==◌, ◌≢◌, bit_xor, slice_index, slice_index_or}
+use Rattle.std.specs.Prelude.{◌≡◌, ℕ, ◌^◌, ◌<◌, Bool, true, false, not, ◌&&◌, ◌||◌, ◌⊎◌, List, length, Some, None, Ok, Err, Option, Result, ◌==◌, ◌≢◌, bit_xor, slice_index}
 use Rattle.code.specs.Codes.{encoding, syndrome}
 use Rattle.code.specs.Search.{among, is_none, least}
 use Rattle.code.specs.Words.{gather}
@@ -7,19 +7,19 @@ use Rattle.code.specs.declared.refusal.Clash.{Clash}
 use Rattle.code.specs.declared.refusal.Refusal.{Refusal}
 use Rattle.code.specs.declared.refusal.Refusal.TheVariants.{ColumnCount, OutOfBounds, OutOfBoundsAt, DataColumn, ColumnValue, NotUnits, CorrectableClash, DetectableClash, WidthsDiffer, BeyondEnd, TooWide, TooWideAt, LostCell, ShortTable, CampaignFull}
 use Rattle.judge.specs.Answers.{given}
-use Rattle.judge.specs.LineUp.{Accepted, Correctable, Detectable, FirstClash, line_up}
+use Rattle.judge.specs.LineUp.{Accepted, Correctable, Detectable, FirstPair, line_up}
 use Rattle.judge.specs.Rules.{DecodingServes, NoRule}
 
 -- ---- computed
 
--- whether the places e and l of the line clash
+-- whether the place e of the line clashes with the place l behind it
 abbrev pub clashes : List ℕ → List ℕ → List ℕ → ℕ → ℕ → Bool
-clashes cs ps line l e = let p = slice_index_or line e 0 in let q = slice_index_or line l 0 in
+clashes cs ps line e l = let p = slice_index line e in let q = slice_index line l in
     not (p == q) && (syndrome cs p == syndrome cs q && (p == 0 || among ps p))
 
 -- the smallest earlier place that clashes with the place l
 abbrev pub earlier_place : List ℕ → List ℕ → List ℕ → ℕ → Option ℕ
-earlier_place cs ps line l = least (clashes cs ps line l) 0 l
+earlier_place cs ps line l = least (λ e. clashes cs ps line e l) 0 l
 
 -- the smallest place that clashes with an earlier one
 abbrev pub later_place : List ℕ → List ℕ → List ℕ → Option ℕ
@@ -33,7 +33,7 @@ shown ds p q = record { earlier = p; later = q; first = 0; second = gather ds (b
 abbrev pub clash_refusal : List ℕ → List ℕ → ℕ → ℕ → Refusal
 clash_refusal ds ps p q = elim (among ps q) [ true ↦ CorrectableClash (shown ds p q) | false ↦ DetectableClash (shown ds p q) ]
 
--- the answer for the later place l, with the earlier place that was found for it
+-- the answer for the later place l, with the earlier place that was found for it; a later place is only taken where there is one
 abbrev pub refused_at : List ℕ → List ℕ → List ℕ → ℕ → Option ℕ → Result ℕ Refusal
 refused_at ds ps line l None = Ok (length line)
 refused_at ds ps line l (Some e) = Err (clash_refusal ds ps (slice_index line e) (slice_index line l))
@@ -56,18 +56,14 @@ verdict cs ds m ps o qs = given (m == length cs && o == length cs) WidthsDiffer 
 abbrev pub Fitting : List ℕ → ℕ → ℕ → Type 0
 Fitting cs m o = (m ≡ length cs) × (o ≡ length cs)
 
--- the two patterns are those of the first clash
-abbrev pub ShowsFirst : List ℕ → List ℕ → List ℕ → Clash → Type 0
-ShowsFirst cs ps qs c = (e : ℕ) × (l : ℕ) × FirstClash cs ps qs e l × (slice_index (line_up ps qs) e ≡ c.earlier) × (slice_index (line_up ps qs) l ≡ c.later)
-
--- two different data words reach one received word, the first through the earlier pattern and the second through the later one; the received word is the earlier pattern itself
+-- two different data words reach one received word of n bits, the first through the earlier pattern and the second through the later one; the received word is the earlier pattern itself
 abbrev pub Collides : List ℕ → List ℕ → Clash → Type 0
-Collides cs ds c = (c.first < 2 ^ length ds) × (c.second < 2 ^ length ds) × (c.first ≢ c.second)
+Collides cs ds c = (c.first < 2 ^ length ds) × (c.second < 2 ^ length ds) × (c.first ≢ c.second) × (c.earlier < 2 ^ length cs)
     × (bit_xor (encoding cs ds c.first) c.earlier ≡ c.earlier) × (bit_xor (encoding cs ds c.second) c.later ≡ c.earlier)
 
--- a refused clash: the first one, shown by two data words that collide, and no rule does the duty
+-- a refused clash: its patterns are those of the first one, two data words collide through them, and no rule does the duty
 abbrev pub Refuses : List ℕ → List ℕ → List ℕ → List ℕ → Clash → Type 0
-Refuses cs ds ps qs c = ShowsFirst cs ps qs c × Collides cs ds c × NoRule cs ds ps qs
+Refuses cs ds ps qs c = FirstPair cs ps qs c.earlier c.later × Collides cs ds c × NoRule cs ds ps qs
 
 -- what each verdict says; a judge gives no other
 abbrev pub Judged : List ℕ → List ℕ → ℕ → List ℕ → ℕ → List ℕ → Result ℕ Refusal → Type 0

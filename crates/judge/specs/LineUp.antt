@@ -32,6 +32,10 @@ Clashes cs ps qs e l = let line = line_up ps qs in
 abbrev pub FirstClash : List ℕ → List ℕ → List ℕ → ℕ → ℕ → Type 0
 FirstClash cs ps qs e l = Clashes cs ps qs e l × ((e' l' : ℕ) → l' < l → Clashes cs ps qs e' l' → ⊥) × ((e' : ℕ) → e' < e → Clashes cs ps qs e' l → ⊥)
 
+-- p and q are the patterns at the places of the first clash
+abbrev pub FirstPair : List ℕ → List ℕ → List ℕ → ℕ → ℕ → Type 0
+FirstPair cs ps qs p q = (e : ℕ) × (l : ℕ) × FirstClash cs ps qs e l × (slice_index (line_up ps qs) e ≡ p) × (slice_index (line_up ps qs) l ≡ q)
+
 -- a design is accepted if no two places of its line-up clash
 abbrev pub Accepted : List ℕ → List ℕ → List ℕ → Type 0
 Accepted cs ps qs = (e l : ℕ) → Clashes cs ps qs e l → ⊥

@@ -1,9 +1,9 @@
 -- The places of the line-up, as a walk over the empty pattern and both classes meets them. The first class lists ps, the second qs.
-use Rattle.std.proofs.Common.{◌≡◌, ℕ, zero, suc, ◌+◌, ◌-◌, ◌^◌, ◌<◌, ◌≤◌, min, Bool, true, false, cond, not, ◌||◌, ltb, ◌⊎◌, List, [], ◌∷◌, ◌++◌, length, get_or, take, drop, filter, sym, refl, ap, ◌∙◌, subst, inl, inr, arith}
+use Rattle.std.proofs.Common.{◌≡◌, ℕ, zero, suc, ◌+◌, ◌-◌, ◌^◌, ◌<◌, ◌≤◌, min, Bool, true, false, cond, not, ◌||◌, ltb, List, ◌∷◌, ◌++◌, length, get_or, take, drop, filter, sym, refl, ap, ◌∙◌, subst, inl, inr, arith}
 use Rattle.std.proofs.lemmas.Nat.{pow_pos}
 use Rattle.std.proofs.lemmas.List.Elements.{filter-append}
-use Rattle.std.proofs.lemmas.List.Filters.{length-filter_more}
-use Rattle.std.proofs.lemmas.List.{drop_more, get_or-append-add, get_or_append_left, get_or_at, length-append, take_all, take-append-drop}
+use Rattle.std.proofs.lemmas.List.Filters.{length-filter_both, length-filter_more}
+use Rattle.std.proofs.lemmas.List.{drop_more, get_or-append-add, get_or_append_left, get_or_at, length-append, length-take, take-append-drop}
 use Rattle.std.proofs.lemmas.Bool.{both_ways, cases_lt, lt-ltb, ltb-true, not-true, not-false, or_cases, or_parts}
 use Rattle.code.specs.Search.{among}
 use Rattle.code.proofs.Members.{among_at, place_of}
@@ -28,7 +28,8 @@ pub front_at : (ps ys : List ℕ) (e : ℕ) → e < length ps + 1 → get_or (0 
 front_at ps ys zero h = refl
 front_at ps ys (suc e) h = get_or_append_left ps ys 0 e (omega arith)
 
-back_at : (ps ys : List ℕ) (i : ℕ) → get_or (0 ∷ (ps ++ ys)) (length ps + 1 + i) 0 ≡ get_or ys i 0
+-- what follows the empty pattern and the first class, by its number
+pub back_at : (ps ys : List ℕ) (i : ℕ) → get_or (0 ∷ (ps ++ ys)) (length ps + 1 + i) 0 ≡ get_or ys i 0
 back_at ps ys i =
     let s : length ps + 1 + i ≡ suc (length ps + i) = omega arith in
     ap (λ x. get_or (0 ∷ (ps ++ ys)) x 0) s ∙ get_or-append-add ps ys i 0
@@ -59,22 +60,13 @@ candidate_below n ps qs j each each₂ h = elim (cases_lt j (length ps + 1)) [
 ]
 
 module _ (ps qs : List ℕ) where
-  line_length : length (line_up ps qs) ≡ length ps + 1 + length (detectable ps qs)
+  pub line_length : length (line_up ps qs) ≡ length ps + 1 + length (detectable ps qs)
   line_length = let e = length-append ps (detectable ps qs) in omega arith
 
   placed_front : (j : ℕ) → j ≤ length ps + 1 → placed ps qs j ≡ j
   placed_front j h =
       let z : j - (length ps + 1) ≡ 0 = omega arith in
       let e : length (detectable ps (take (j - (length ps + 1)) qs)) ≡ 0 = ap (λ i. length (detectable ps (take i qs))) z in
-      omega arith
-
-  pub placed_none : placed ps qs 0 ≡ 0
-  placed_none = placed_front 0 (omega arith)
-
-  pub placed_all : (j : ℕ) → length ps + 1 + length qs ≤ j → placed ps qs j ≡ length (line_up ps qs)
-  placed_all j h =
-      let e : length (detectable ps (take (j - (length ps + 1)) qs)) ≡ length (detectable ps qs) = ap (λ l. length (detectable ps l)) (take_all (j - (length ps + 1)) qs (omega arith)) in
-      let l = line_length in
       omega arith
 
   -- at least the places of the front are filled
@@ -154,3 +146,15 @@ module _ (ps qs : List ℕ) where
       | inr b ↦ absurd (let here = placed_front j b in omega arith)
     ]
   ]
+
+  -- no more places are filled than candidates were met
+  pub placed_few : (j : ℕ) → placed ps qs j ≤ j
+  placed_few j =
+      let rest : List ℕ = take (j - (length ps + 1)) qs in
+      let both = length-filter_both (λ q. not (among ps q)) (among ps) (λ q. sym (not_not (among ps q))) rest in
+      let most = length-take (j - (length ps + 1)) qs in
+      omega arith
+    where
+      not_not : (b : Bool) → not (not b) ≡ b
+      not_not true = refl
+      not_not false = refl

@@ -1,6 +1,6 @@
-ghost use Rattle.std.specs.Prelude.{◌≡◌, ℕ, length, MatchResult, slice_index};
+ghost use Rattle.std.specs.Prelude.{◌≡◌, length, MatchResult};
 ghost use Rattle.code.specs.Meaning.{columns_of};
-ghost use Rattle.judge.specs.LineUp.{Accepted, FirstClash, line_up};
+ghost use Rattle.judge.specs.LineUp.{Accepted, FirstPair, line_up};
 
 use crate::ask::syndrome_of;
 use crate::line::{candidate, front_pattern, lines_up};
@@ -21,12 +21,11 @@ pub(crate) fn search<C: ErrorClass, D: ErrorClass>(
     first: &C,
     second: &D,
 ) -> Result<usize, Rivals>
-    requires { (C.ErrorClass.wide first.now ≡ length (columns_of code.now)) × (D.ErrorClass.wide second.now ≡ length (columns_of code.now)) }
+    requires first { C.ErrorClass.wide first.now ≡ length (columns_of code.now) }
+    requires second { D.ErrorClass.wide second.now ≡ length (columns_of code.now) }
     ensures { MatchResult result
         (λ m. (m ≡ length (line_up (C.ErrorClass.patterns first.now) (D.ErrorClass.patterns second.now))) × Accepted (columns_of code.now) (C.ErrorClass.patterns first.now) (D.ErrorClass.patterns second.now))
-        (λ s. (e : ℕ) × (l : ℕ) × FirstClash (columns_of code.now) (C.ErrorClass.patterns first.now) (D.ErrorClass.patterns second.now) e l
-        × (slice_index (line_up (C.ErrorClass.patterns first.now) (D.ErrorClass.patterns second.now)) e ≡ s.earlier)
-        × (slice_index (line_up (C.ErrorClass.patterns first.now) (D.ErrorClass.patterns second.now)) l ≡ s.later)) }
+        (λ s. FirstPair (columns_of code.now) (C.ErrorClass.patterns first.now) (D.ErrorClass.patterns second.now) s.earlier s.later) }
 {
     let front = first.count() + 1;
     let end = front + second.count();

@@ -8,7 +8,8 @@ use classes::ErrorClass;
 use code::{Clash, Code, Refusal};
 
 // Judges a design: a code, the errors that it is to correct, and the errors that it is to flag. Accepts it
-// with the length of its line-up, or shows the first clash.
+// with the length of its line-up, or refuses it with its first clash: 6 if both patterns are to be corrected,
+// 7 if the later one is to be flagged. Before that it refuses 8 if a class has another width than the code.
 pub fn judge<C: ErrorClass, D: ErrorClass>(
     code: &Code,
     first: &C,
@@ -30,7 +31,8 @@ pub fn judge<C: ErrorClass, D: ErrorClass>(
 
 // The refusal for two rival patterns, with the data words that show the clash.
 fn clash_of<C: ErrorClass>(code: &Code, first: &C, rivals: Rivals) -> Refusal
-    requires { (rivals.earlier < 2 ^ length (columns_of code.now)) × (rivals.later < 2 ^ length (columns_of code.now)) }
+    requires earlier { rivals.earlier < 2 ^ length (columns_of code.now) }
+    requires later { rivals.later < 2 ^ length (columns_of code.now) }
     ensures { result ≡ clash_refusal (data_of code.now) (C.ErrorClass.patterns first.now) rivals.earlier rivals.later }
 {
     let clash = Clash {

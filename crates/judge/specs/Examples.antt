@@ -4,7 +4,7 @@ use Rattle.code.specs.declared.refusal.Refusal.TheVariants.{CorrectableClash, De
 use Rattle.listings.specs.Listings.{burst, random}
 use Rattle.judge.specs.Verdicts.{verdict}
 
--- three codes: 4 data bits in 7 columns, 1 in 6, and 1 in 2
+-- a Hamming code with 4 data bits in 7 columns, and repetition codes of length 6 and of length 2
 abbrev pub columns_a : List ℕ
 columns_a = 3 ∷ (5 ∷ (6 ∷ (7 ∷ (1 ∷ (2 ∷ (4 ∷ []))))))
 
@@ -17,7 +17,7 @@ columns_b = 31 ∷ (1 ∷ (2 ∷ (4 ∷ (8 ∷ (16 ∷ [])))))
 abbrev pub columns_c : List ℕ
 columns_c = 1 ∷ (1 ∷ [])
 
--- codes B and C have one data column
+-- the repetition codes have one data column
 abbrev pub data_one : List ℕ
 data_one = 0 ∷ []
 

@@ -1,5 +1,6 @@
 -- Decoding by a code with the column values cs and the data columns ds, and a class that lists ps.
-use Rattle.std.specs.Prelude.{◌≡◌, ℕ, ◌^◌, ◌<◌, true, false, List, [], ◌∷◌, length, Some, None, Ok, Option, Result, ◌==◌, ◌≢◌, bit_xor, nat_lt, slice_index}
+use Rattle.std.specs.Prelude.{◌≡◌, ℕ, ◌^◌, ◌<◌, Bool, List, ◌∷◌, length, Some, None, Ok, Option, Result, ◌==◌, ◌≢◌, bit_xor, nat_lt, slice_index}
+use Rattle.std.specs.List.{find}
 use Rattle.code.specs.Codes.{encoding, syndrome}
 use Rattle.code.specs.Words.{gather}
 use Rattle.code.specs.declared.refusal.Refusal.{Refusal}
@@ -8,14 +9,13 @@ use Rattle.judge.specs.Answers.{given}
 use Rattle.judge.specs.declared.decoded.Decoded.{Decoded}
 use Rattle.judge.specs.declared.decoded.Decoded.TheVariants.{Data, Flag}
 
--- the first of some patterns with the syndrome s
-abbrev pub first_with : List ℕ → ℕ → List ℕ → Option ℕ
-first_with cs s [] = None
-first_with cs s (p ∷ ps) = elim (syndrome cs p == s) [ true ↦ Some p | false ↦ first_with cs s ps ]
+-- whether the pattern p has the syndrome s
+abbrev pub leaves : List ℕ → ℕ → ℕ → Bool
+leaves cs s p = syndrome cs p == s
 
 -- the pattern that decoding takes for the syndrome s: of the empty pattern and then the class, the first with that syndrome
 abbrev pub taken : List ℕ → List ℕ → ℕ → Option ℕ
-taken cs ps s = first_with cs s (0 ∷ ps)
+taken cs ps s = find (leaves cs s) (0 ∷ ps)
 
 -- the data bits of the word with the pattern undone, and the pattern; a flag where there is no pattern
 abbrev pub undone : List ℕ → ℕ → Option ℕ → Decoded
@@ -44,6 +44,6 @@ abbrev pub Decodes : List ℕ → List ℕ → List ℕ → ℕ → Decoded → 
 Decodes cs ds ps w (Data d p) = FirstWith cs ps w p × (d < 2 ^ length ds) × (bit_xor (encoding cs ds d) p ≡ w)
 Decodes cs ds ps w Flag = NoneBefore cs ps w (length (0 ∷ ps))
 
--- an encoded word gives its data word back, with the empty pattern
+-- an encoded word is not refused for a class of the code's width, and gives its data word back, with the empty pattern
 abbrev pub DecodesEncoded : List ℕ → List ℕ → List ℕ → Type 0
-DecodesEncoded cs ds ps = (d : ℕ) → d < 2 ^ length ds → decoded cs ds ps (encoding cs ds d) ≡ Data d 0
+DecodesEncoded cs ds ps = (d : ℕ) → d < 2 ^ length ds → decoding cs ds (length cs) ps (encoding cs ds d) ≡ Ok (Data d 0)

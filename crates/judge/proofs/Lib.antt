@@ -1,0 +1,9 @@
+pub mod Finding
+pub mod Striking
+pub mod Lines
+pub mod Searches
+pub mod Ruling
+pub mod Judging
+pub mod Decodings
+pub mod Verdicts
+pub mod Tables
