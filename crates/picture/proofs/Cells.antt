@@ -1,12 +1,14 @@
 -- What a hole with a width prints of a number or a letter: a cell of the table, or a label.
-use Rattle.std.proofs.Common.{◌≡◌, ℕ, zero, suc, ◌+◌, ◌-◌, ◌^◌, Bool, true, false, cond, eqb, codes, List, [], ◌∷◌, ◌++◌, map, length, decimal, refl, ap, sym, ◌∙◌, arith, append-nil}
+use Rattle.std.proofs.Common.{◌≡◌, ℕ, zero, suc, ◌+◌, ◌-◌, ◌^◌, Bool, true, false, cond, eqb, ◌==◌, codes, List, [], ◌∷◌, ◌++◌, map, length, decimal, refl, ap, sym, ◌∙◌, arith, append-nil}
 use Rattle.std.proofs.lemmas.List.{flat_map_more}
 use Rattle.std.proofs.lemmas.Bool.{ne_eqb}
 use lib.Utf8.{encode}
 use Rattle.std.specs.Fmt.{format_spec, styled_decimal, styled_text, padded_integral, padded, take_chars, char_count}
 use Rattle.std.specs.List.{flat_map, range_with_len, repeat}
 use Rattle.picture.specs.Pictured.{blanks, cell, kind, label, letter, number_cells, number_line}
+use Rattle.picture.specs.Marked.{mark}
 use Rattle.code.specs.Search.{among}
+use Rattle.code.specs.Words.{bit}
 
 -- what `{:>w}` prints of a number, and of a character
 abbrev pub right_number : ℕ → ℕ → List ℕ
@@ -65,6 +67,14 @@ right_letter zero false = refl
 right_letter (suc w) true = let wide : eqb (suc w) 0 ≡ false = ne_eqb (suc w) 0 (λ e. omega arith) in rw wide (right_one w 100)
 right_letter (suc w) false = let wide : eqb (suc w) 0 ≡ false = ne_eqb (suc w) 0 (λ e. omega arith) in rw wide (right_one w 99)
 
+-- the mark of a column at the right end of a cell
+right_mark : (w : ℕ) (b : Bool) → 32 ∷ right_char w (cond b 94 46) ≡ cell w (cond b 94 46 ∷ [])
+unfolding cell padded take_chars char_count encode
+right_mark zero true = refl
+right_mark zero false = refl
+right_mark (suc w) true = let wide : eqb (suc w) 0 ≡ false = ne_eqb (suc w) 0 (λ e. omega arith) in rw wide (right_one w 94)
+right_mark (suc w) false = let wide : eqb (suc w) 0 ≡ false = ne_eqb (suc w) 0 (λ e. omega arith) in rw wide (right_one w 46)
+
 -- the cells of a line of numbers
 cells_shown : (w : ℕ) (ns : List ℕ) → flat_map (λ n. 32 ∷ right_number w n) ns ≡ number_cells w ns
 cells_shown w [] = refl
@@ -79,6 +89,11 @@ numbers_shown name front w ns cells named same =
 pub kinds_shown : (w : ℕ) (ds js : List ℕ) → flat_map (λ x. 32 ∷ right_char w x) (map (letter ds) js) ≡ flat_map (λ j. cell w (kind ds j)) js
 kinds_shown w ds [] = refl
 kinds_shown w ds (j ∷ js) = ap (λ (l : List ℕ). l ++ flat_map (λ x. 32 ∷ right_char w x) (map (letter ds) js)) (right_letter w (among ds j)) ∙ ap (λ (l : List ℕ). cell w (kind ds j) ++ l) (kinds_shown w ds js)
+
+-- the cells of a line of marks
+pub marks_shown : (w p : ℕ) (js : List ℕ) → flat_map (λ x. 32 ∷ right_char w x) (map (mark p) js) ≡ flat_map (λ j. cell w (mark p j ∷ [])) js
+marks_shown w p [] = refl
+marks_shown w p (j ∷ js) = ap (λ (l : List ℕ). l ++ flat_map (λ x. 32 ∷ right_char w x) (map (mark p) js)) (right_mark w (bit p j == 1)) ∙ ap (λ (l : List ℕ). cell w (mark p j ∷ []) ++ l) (marks_shown w p js)
 
 -- the numbers below i + 1 are those below i, and i
 range_more : (a n j : ℕ) → a + n ≡ j → range_with_len a (suc n) ≡ range_with_len a n ++ (j ∷ [])

@@ -1,6 +1,6 @@
 ghost use Rattle.std.specs.Prelude.{◌≡◌, ◌+◌, IfOk, string_bytes};
 ghost use Rattle.code.specs.Words.{bit};
-ghost use Rattle.picture.specs.Drawn.{drawn};
+ghost use Rattle.picture.specs.Drawn.{drawn, value_drawn};
 
 use std::alloc::{AllocError, Global};
 
@@ -23,4 +23,17 @@ pub fn bits_text(heap: Global, word: u64, count: usize) -> Result<String, AllocE
     ensures { IfOk result (λ t. string_bytes t ≡ drawn count word) }
 {
     (0..count).map(|j| digit_of(word, j)).collect(heap)
+}
+
+// A number with its bits, so many of them, and what they belong to, as `6 (rows 011)`.
+pub fn value_text(
+    heap: Global,
+    value: u64,
+    places: &'static str,
+    count: usize,
+) -> Result<String, AllocError>
+    ensures { IfOk result (λ t. string_bytes t ≡ value_drawn places.now count value) }
+{
+    let bits = bits_text(heap, value, count)?;
+    format!(in heap; "{value} ({places} {bits})")
 }

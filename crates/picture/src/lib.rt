@@ -3,12 +3,14 @@
 #![tactic(auto)]
 
 mod bits;
+mod marked;
 mod matrix;
 mod noun;
 mod patterns;
 mod table;
 
-pub use bits::bits_text;
+pub use bits::{bits_text, value_text};
+pub use marked::marked_picture;
 pub use matrix::matrix_picture;
 pub use noun::{counted_text, noun_for};
 pub use patterns::patterns_picture;

@@ -1,6 +1,6 @@
-ghost use Rattle.std.specs.Prelude.{◌≡◌, ◌++◌, map, IfOk, string_bytes, codes, decimal};
+ghost use Rattle.std.specs.Prelude.{◌≡◌, ◌++◌, max, map, IfOk, string_bytes, codes, decimal};
 ghost use Rattle.std.specs.List.{range_with_len};
-ghost use Rattle.picture.specs.Pictured.{letter, number_line, pictured, row_of};
+ghost use Rattle.picture.specs.Pictured.{letter, number_line, pictured, row_of, widest};
 
 use crate::bits::bit_of;
 use crate::table::{Table, column_numbers, widest_of};
@@ -38,6 +38,13 @@ impl Table {
     }
 }
 
+// How wide a cell of the matrix is: as wide as the widest number that stands in it.
+pub(crate) fn matrix_width(numbers: &[u64], values: &[u64]) -> usize
+    ensures { result ≡ max (widest numbers.now) (widest values.now) }
+{
+    widest_of(numbers).max(widest_of(values))
+}
+
 // The parity check matrix of these column values as it is drawn on paper, top row first, with the number, the
 // value and the kind of each column.
 pub fn matrix_picture(
@@ -49,7 +56,7 @@ pub fn matrix_picture(
     ensures { IfOk result (λ t. string_bytes t ≡ pictured values.now data_columns.now rows) }
 {
     let numbers = column_numbers(heap, values.len())?;
-    let width = widest_of(&numbers).max(widest_of(values));
+    let width = matrix_width(&numbers, values);
     let table = Table { heap, width };
     let upper = table.lines(&numbers, rows, |i| table.row_line(i, values))?;
     let below = table.line("value ", values)?;

@@ -10,9 +10,12 @@ use Rattle.design.specs.Texts.{belongs_text, class_text, classes_text, list_text
 use Rattle.design.specs.declared.design.Design.{Design}
 use Rattle.design.specs.declared.duty.Duty.{Duty}
 use Rattle.design.specs.declared.duty.Duty.TheVariants.{Correct, Detect}
+use Rattle.report.specs.Decoded.{decoded_text}
+use Rattle.report.specs.Tables.{table_text}
+use Rattle.report.specs.Verdicts.{verdict_text}
 use Rattle.script.specs.Replies.{encode_text, syndrome_text, data_text, show_text, opened_text, Says}
 use Rattle.script.specs.declared.command.Command.{Command}
-use Rattle.script.specs.declared.command.Command.TheVariants.{Nothing, Matrix, Open, Show, Encode, Syndrome, Data, Name, Classes, Patterns, Belongs}
+use Rattle.script.specs.declared.command.Command.TheVariants.{Nothing, Matrix, Open, Show, Encode, Syndrome, Data, Name, Classes, Patterns, Belongs, Judge, Decode, Table}
 use Rattle.script.specs.declared.drawing.Drawing.{Drawing}
 
 -- a drawing with no row, begun at this line
@@ -61,3 +64,6 @@ Performed line design drawing (Name duty item) design' drawing' text = (drawing'
 Performed line design drawing Classes design' drawing' text = Tells design drawing design' drawing' text (classes_text design)
 Performed line design drawing (Patterns duty most) design' drawing' text = Tells design drawing design' drawing' text (list_text design duty most)
 Performed line design drawing (Belongs duty mask) design' drawing' text = Tells design drawing design' drawing' text (belongs_text design duty mask)
+Performed line design drawing Judge design' drawing' text = Tells design drawing design' drawing' text (verdict_text design)
+Performed line design drawing (Decode word) design' drawing' text = Tells design drawing design' drawing' text (decoded_text design word)
+Performed line design drawing Table design' drawing' text = Tells design drawing design' drawing' text (table_text design)

@@ -6,9 +6,9 @@ use Rattle.code.specs.Refusals.{number_of}
 use Rattle.code.specs.Words.{gather}
 use Rattle.code.specs.declared.refusal.Refusal.{Refusal}
 use Rattle.code.specs.declared.refusal.Refusal.TheVariants.{OutOfBoundsAt, DataColumn, ColumnValue, TooWideAt}
-use Rattle.picture.specs.Drawn.{drawn}
-use Rattle.picture.specs.Nouns.{counted}
+use Rattle.picture.specs.Drawn.{value_drawn}
 use Rattle.picture.specs.Pictured.{pictured}
+use Rattle.report.specs.Wide.{wide_data_word, wide_word}
 use Rattle.script.specs.declared.question.Question.{Question}
 use Rattle.script.specs.declared.question.Question.TheVariants.{Encode, Syndrome, Data}
 
@@ -24,9 +24,9 @@ places Encode = codes "columns"
 places Syndrome = codes "rows"
 places Data = codes "bits"
 
--- a word, what is answered of it, and the bits of that, so many of them, drawn
+-- a word, and what is answered of it with its bits, so many of them
 abbrev pub word_line : Question → ℕ → ℕ → ℕ → List ℕ
-word_line question word value count = asked question ++ (codes " " ++ (decimal word ++ (codes ": " ++ (decimal value ++ (codes " (" ++ (places question ++ (codes " " ++ (drawn count value ++ codes ")"))))))))
+word_line question word value count = asked question ++ (codes " " ++ (decimal word ++ (codes ": " ++ value_drawn (places question) count value)))
 
 abbrev pub opened_line : ℕ → ℕ → ℕ → List ℕ
 opened_line columns data_count checks = codes "code of " ++ (decimal columns ++ (codes " columns: " ++ (decimal data_count ++ (codes " data, " ++ (decimal checks ++ codes " check")))))
@@ -45,16 +45,6 @@ place e = []
 -- the text names the refusal by its number, says where, and says why in words that are left open here
 abbrev pub Says : Refusal → List ℕ → Type 0
 Says e text = (why : List ℕ) × (text ≡ codes "refused " ++ (decimal (number_of e) ++ (place e ++ (codes ": " ++ why))))
-
--- a word with a bit beyond the columns, which are so many, is refused
-abbrev pub beyond_line : ℕ → List ℕ → ℕ → List ℕ → List ℕ
-beyond_line number name word columns = codes "refused " ++ (decimal number ++ (name ++ (decimal word ++ (codes " has a bit beyond the " ++ columns))))
-
-abbrev pub wide_word : ℕ → ℕ → Refusal → List ℕ
-wide_word word columns e = beyond_line (number_of e) (codes ": word ") word (decimal columns ++ codes " columns")
-
-abbrev pub wide_data_word : ℕ → ℕ → Refusal → List ℕ
-wide_data_word word count e = beyond_line (number_of e) (codes ": data word ") word (counted count (codes "data column") (codes "data columns"))
 
 -- the line for an answer, or for its refusal
 abbrev pub answer : Result ℕ Refusal → (ℕ → List ℕ) → (Refusal → List ℕ) → List ℕ

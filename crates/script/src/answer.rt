@@ -3,9 +3,10 @@ ghost use Rattle.code.specs.Meaning.{columns_of, data_of};
 ghost use Rattle.script.specs.Replies.{data_text, encode_text, show_text, syndrome_text};
 
 use crate::question::Question;
-use crate::reply::{wide_data_word_line, wide_word_line, word_line};
+use crate::reply::word_line;
 use code::Code;
 use picture::matrix_picture;
+use report::{wide_data_word_line, wide_word_line};
 use std::alloc::{AllocError, Global};
 
 // What the lab says of a word, for a code. Each question has its own function: its call of the code, the

@@ -46,6 +46,12 @@ pub enum Command {
     Patterns(Duty, usize),
     // whether a mask is one of the patterns for a duty
     Belongs(Duty, u64),
+    // the verdict on the design
+    Judge,
+    // what the errors to correct make of a received word
+    Decode(u64),
+    // the decoding table
+    Table,
 }
 
 // What a line says while a drawing is open.
@@ -129,6 +135,7 @@ pub(crate) fn read_command(heap: Global, line: &str) -> Result<Command, Fault<'_
         "encode" => only_number(words).map(Command::Encode),
         "syndrome" => only_number(words).map(Command::Syndrome),
         "data" => only_number(words).map(Command::Data),
+        "decode" => only_number(words).map(Command::Decode),
         "correct" => name_command(Duty::Correct, words),
         "detect" => name_command(Duty::Detect, words),
         "list" => name_and_number(words).map(|(duty, limit)| Command::Patterns(
@@ -139,6 +146,8 @@ pub(crate) fn read_command(heap: Global, line: &str) -> Result<Command, Fault<'_
         "matrix" => alone(Command::Matrix, words),
         "show" => alone(Command::Show, words),
         "classes" => alone(Command::Classes, words),
+        "judge" => alone(Command::Judge, words),
+        "table" => alone(Command::Table, words),
         _ => Err(Fault::UnknownCommand(first)),
     }
 }

@@ -1,10 +1,10 @@
 ghost use Rattle.std.specs.Prelude.{◌≡◌, IfOk, string_bytes};
 ghost use Rattle.code.specs.Meaning.{columns_of, data_of};
-ghost use Rattle.script.specs.Replies.{opened_text, places, unfinished_line, wide_data_word, wide_word, word_line};
+ghost use Rattle.script.specs.Replies.{opened_text, places, unfinished_line, word_line};
 
 use crate::question::Question;
-use code::{Code, Refusal};
-use picture::{bits_text, counted_text, noun_for};
+use code::Code;
+use picture::{noun_for, value_text};
 use std::alloc::{AllocError, Global};
 
 // What is answered of a word: a value, and its bits, so many of them.
@@ -17,9 +17,8 @@ pub(crate) fn word_line(
 ) -> Result<String, AllocError>
     ensures { IfOk result (λ t. string_bytes t ≡ word_line question word value count) }
 {
-    let places = question.places();
-    let bits = bits_text(heap, value, count)?;
-    format!(in heap; "{question} {word}: {value} ({places} {bits})")
+    let answer = value_text(heap, value, question.places(), count)?;
+    format!(in heap; "{question} {word}: {answer}")
 }
 
 // What is said of a code that was opened.
@@ -58,32 +57,4 @@ pub(crate) fn unfinished_line(heap: Global, since: usize) -> Result<String, Allo
     format!(in heap;
         "the script ends, and the drawing that is open since line {since} has no 'data'"
     )
-}
-
-// A word with a bit beyond the columns is refused.
-pub(crate) fn wide_word_line(
-    heap: Global,
-    refusal: Refusal,
-    word: u64,
-    columns: usize,
-) -> Result<String, AllocError>
-    ensures { IfOk result (λ t. string_bytes t ≡ wide_word word columns refusal) }
-{
-    let number = refusal.number();
-    format!(in heap; "refused {number}: word {word} has a bit beyond the {columns} columns")
-}
-
-// A data word with a bit beyond the data columns is refused. It is not one function with the line above:
-// that one counts its columns with no singular, so what the two share is a single `format!`.
-pub(crate) fn wide_data_word_line(
-    heap: Global,
-    refusal: Refusal,
-    word: u64,
-    bits: usize,
-) -> Result<String, AllocError>
-    ensures { IfOk result (λ t. string_bytes t ≡ wide_data_word word bits refusal) }
-{
-    let number = refusal.number();
-    let columns = counted_text(heap, bits, "data column", "data columns")?;
-    format!(in heap; "refused {number}: data word {word} has a bit beyond the {columns}")
 }

@@ -12,6 +12,7 @@ use crate::reply::unfinished_line;
 use crate::row::row_bits;
 use code::Code;
 use design::Design;
+use report::{decoded_text, table_text, verdict_text};
 use std::alloc::{AllocError, Global};
 
 // A script on its way: the code that it works with, the errors that are named for it, and the drawing that is open.
@@ -83,6 +84,9 @@ impl Session {
             Command::Classes => self.design.classes_text(self.heap),
             Command::Patterns(duty, limit) => self.design.list_text(self.heap, duty, limit),
             Command::Belongs(duty, mask) => self.design.belongs_line(self.heap, duty, mask),
+            Command::Judge => verdict_text(self.heap, &self.design),
+            Command::Decode(word) => decoded_text(self.heap, &self.design, word),
+            Command::Table => table_text(self.heap, &self.design),
         }
     }
 

@@ -276,3 +276,39 @@ fn unreadable_names_of_errors_are_faults(rt: HostRuntime) -> Result<(), Fail> {
     ];
     answers(&rt, &script)
 }
+
+#[test]
+fn design_is_judged_and_words_are_decoded(rt: HostRuntime) -> Result<(), Fail> {
+    let script = [
+        HAMMING,
+        ("judge", "judge: accepted, no clash among 1 pattern"),
+        ("correct mask 1", "correct: 1 pattern"),
+        ("judge", "judge: accepted, no clash among 2 patterns"),
+        ("decode 49", "decode 49: 1 (bits 1000), no error found"),
+        (
+            "decode 48",
+            "decode 48: 1 (bits 1000), pattern 1 (columns 1000000) undone",
+        ),
+        (
+            "decode 51",
+            "decode 51: flag, no pattern to correct has the syndrome 5 (rows 101)",
+        ),
+        (
+            "decode 128",
+            "refused 10: word 128 has a bit beyond the 7 columns",
+        ),
+        (
+            "table",
+            "syndrome 0 (rows 000): pattern 0 (columns 0000000)\nsyndrome 3 (rows 110): pattern 1 (columns 1000000)\nflags: 6 of 8 syndromes",
+        ),
+        ("detect mask 48", "detect: 1 pattern"),
+        (
+            "judge",
+            "refused 7: p = 1 and q = 48 clash\ncolumn 0 1 2 3 4 5 6\nrow 0  1 1 0 1 1 0 0\nrow 1  1 0 1 1 0 1 0\nrow 2  0 1 1 1 0 0 1\nvalue  3 5 6 7 1 2 4\nkind   d d d d c c c\np      ^ . . . . . .\nq      . . . . ^ ^ .\np is to be corrected, q is to be flagged, and both have the syndrome 3 (rows 110)\ndata word 0 (bits 0000) struck by p and data word 1 (bits 1000) struck by q are both received as 1 (columns 1000000)",
+        ),
+        ("judge 1", "line 11: a word too many: '1'"),
+        ("decode", "line 12: a number is missing"),
+        ("table 2", "line 13: a word too many: '2'"),
+    ];
+    answers(&rt, &script)
+}

@@ -9,11 +9,11 @@ unfolding pictured table_width label
 returns c =
     let vs : List ℕ = c.args.values.now in
     let ds : List ℕ = c.args.data_columns.now in
-    let w : ℕ = c.max-width.result in
+    let w : ℕ = c.matrix_width-width.result in
     let ns : List ℕ = range_with_len 0 (length vs) in
     let first : c.deref.result.now ≡ ns = c.deref.ensures.value ∙ c.in_ok-numbers.ensures in
     let second : c.deref-2.result.now ≡ ns = c.deref-2.ensures.value ∙ c.in_ok-numbers.ensures in
-    let wide : w ≡ max (widest ns) (widest vs) = c.max-width.ensures ∙ (ap (λ n. max n c.widest_of-2.result) (c.widest_of.ensures ∙ ap widest first) ∙ ap (max (widest ns)) c.widest_of-2.ensures) in
+    let wide : w ≡ max (widest ns) (widest vs) = c.matrix_width-width.ensures ∙ ap (λ (l : List ℕ). max (widest l) (widest vs)) first in
     let upper : string_bytes c.in_ok-upper.upper ≡ number_line (codes "column") w ns ++ row_lines w vs c.args.rows 0 = c.in_ok-upper.ensures (λ i. number_line (codes "row " ++ decimal i) w (row_of i vs)) (λ i r k. search rules) ∙ ap (λ (l : List ℕ). number_line (codes "column") w l ++ row_lines w vs c.args.rows 0) second in
     let below : string_bytes c.in_ok-below.below ≡ number_line (codes "value") w vs = c.in_ok-below.ensures (right_number w) (λ n. refl) ∙ numbers_shown (codes "value") (codes "value ") w vs _ refl refl in
     let kinds : c.deref-3.result.now ≡ map (letter ds) ns = c.deref-3.ensures.value ∙ c.in_ok-kinds.ensures in

@@ -1,0 +1,6 @@
+pub mod Wide
+pub mod Syndrome
+pub mod Clashes
+pub mod Verdicts
+pub mod Decoded
+pub mod Tables
